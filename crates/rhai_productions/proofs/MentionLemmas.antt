@@ -70,6 +70,10 @@ rather s h = record { is = λ name. s name ∙ h.is name }
 pub same : {a b c : List Mention} {us : List Text} → c ≡ b → More a b us → More a c us
 same s h = rather (λ name. ap (is_read name) s) h
 
+-- other mentions before
+pub begun : {a b c : List Mention} {us : List Text} → a ≡ b → More b c us → More a c us
+begun {us = us} s h = record { is = λ name. h.is name ∙ ap (λ ms. is_read name ms || is_among name us) (sym s) }
+
 -- mentions after others
 pub appended : {a b : List Mention} {us : List Text} → Only b us → More a (a ++ b) us
 appended {a = a} {b = b} h = record {
@@ -79,11 +83,12 @@ appended {a = a} {b = b} h = record {
 pub both : {a b : List Mention} {us vs : List Text} → Only a us → Only b vs → Only (a ++ b) (us ++ vs)
 both h k = on h (appended k)
 
--- the same in the other order
-pub swapped : {a b : List Mention} {us vs : List Text} → Only a us → Only b vs → Only (b ++ a) (us ++ vs)
-swapped {a = a} {b = b} h k =
-    rather (λ name. read_append name b a ∙ or_comm (is_read name b) (is_read name a) ∙ sym (read_append name a b))
-    (both h k)
+-- mentions before others
+pub prepended : {a b : List Mention} {us : List Text} → Only b us → More a (b ++ a) us
+prepended {a = a} {b = b} {us = us} h = record {
+  is = λ name.
+      read_append name b a ∙ or_comm (is_read name b) (is_read name a) ∙ ap (λ r. is_read name a || r) (h.is name);
+}
 
 pub call_before : {a b : List Mention} {us : List Text} (c : Called) → More b a us → More b (by_call c ++ a) us
 call_before {a = a} c h = rather (λ name. call_reads name c a) h

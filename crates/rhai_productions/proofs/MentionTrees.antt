@@ -26,8 +26,8 @@ use Rattle.rhai_lower.specs.declared.token.Token.TheVariants as token
 use Rattle.rhai_productions.specs.Mentions.{Mention, Reads, all_mentions, arm_mentions, block_mentions, case_mentions}
 use Rattle.rhai_productions.specs.Mentions.{is_read, mentions, property_mentions, statement_mentions}
 use Rattle.rhai_productions.specs.Mentions.{statements_mentions}
-use Rattle.rhai_productions.proofs.MentionLemmas.{More, Only, Silent, appended, both, call_before, call_reads, none_read}
-use Rattle.rhai_productions.proofs.MentionLemmas.{on, rather, read_append, same, swapped}
+use Rattle.rhai_productions.proofs.MentionLemmas.{More, Only, Silent, appended, call_before, prepended}
+use Rattle.rhai_productions.proofs.MentionLemmas.{same}
 use Rattle.rhai_productions.proofs.NumberTrees.{ends_path}
 
 -- ---- lists with one more
@@ -201,10 +201,14 @@ joined_list k p a b =
 alone : {a b : List Mention} {us : List Text} → More b a us → More b (a ++ []) us
 alone {a = a} h = same (append-nil a) h
 
-pub operator : {us vs : List Text} (j : Joining) (op : Lexeme) (p : Position) (a b : Node)
-    → Only (mentions a) us → Only (mentions b) vs → Only (mentions (joined_tree j op p a b)) (us ++ vs)
+turned : {b : List Mention} {us : List Text} (a : List Mention) → Only b us → More a (b ++ (a ++ [])) us
+turned {b = b} a h = same (ap (λ ms. b ++ ms) (append-nil a)) (prepended h)
+
+-- a tree mentions what its left operand does, and the names of the right one
+pub operator : {us : List Text} (j : Joining) (op : Lexeme) (p : Position) (a b : Node) → Only (mentions b) us
+    → More (mentions a) (mentions (joined_tree j op p a b)) us
 unfolding mentions
-operator (joins.List k) op p a b h i = same (joined_list k p a b) (both h i)
-operator joins.Membership op p a b h i = call_before (O.contains_called None) (swapped (alone h) i)
-operator joins.NoMembership op p a b h i = alone (call_before (O.contains_called (Some op)) (swapped (alone h) i))
-operator joins.Call op p a b h i = both h (alone i)
+operator (joins.List k) op p a b h = same (joined_list k p a b) (appended h)
+operator joins.Membership op p a b h = call_before (O.contains_called None) (turned (mentions a) h)
+operator joins.NoMembership op p a b h = alone (call_before (O.contains_called (Some op)) (turned (mentions a) h))
+operator joins.Call op p a b h = appended (alone h)
