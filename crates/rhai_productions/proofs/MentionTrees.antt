@@ -1,21 +1,15 @@
 -- What trees mention that are made of others: lists, chains, operators, and the arms of a `switch`.
-use Rattle.std.proofs.Common.{◌≡◌, ◌∙◌, ℕ, Bool, true, false, ◌||◌, not, List, [], ◌∷◌, ◌++◌, Option, Some, None, refl}
+use Rattle.std.proofs.Common.{◌≡◌, ◌∙◌, Bool, true, false, ◌||◌, List, [], ◌∷◌, ◌++◌, Some, None, refl}
 use Rattle.std.proofs.Common.{sym, ap, ap₂, if◌then◌else◌, append_assoc, append-nil, is_some}
-use Rattle.std.proofs.Math.Bool.{or-false}
-use Rattle.std.proofs.lemmas.Bool.{and_from, and_parts}
-use Rattle.std.specs.Option.{option_or}
 use Rattle.rhai_lower.specs.Nodes as node
 use Rattle.rhai_lower.specs.Nodes.{Arms, Cases}
-use Rattle.rhai_grammar.specs.CaseValues.{are_literal_values, have_literal_values, inclusion, is_literal_value}
-use Rattle.rhai_grammar.specs.CaseValues.{range_end, range_from, range_over, range_start, same_value}
 use Rattle.rhai_grammar.specs.Operators as O
-use Rattle.rhai_grammar.specs.Prelude.{Bracket, Chain, Collected, Dotted, Lexeme, Link, LinkKind, Node, Nodes, Position}
-use Rattle.rhai_grammar.specs.Prelude.{is_among, Properties, Refusal, SlotValue, Text, added_text, affected, arm_fault, chain_of}
+use Rattle.rhai_grammar.specs.Prelude.{Bracket, Chain, Dotted, Lexeme, Link, LinkKind, Node, Nodes, Position}
+use Rattle.rhai_grammar.specs.Prelude.{is_among, Properties, SlotValue, Text, added_text, affected, chain_of}
 use Rattle.rhai_grammar.specs.Prelude.{chained, is_last, is_variable, joined, joined_tree, link_node, made_block, nest}
-use Rattle.rhai_grammar.specs.Prelude.{number, part, qualified, same_text, value_of, variable_of, with_arm_collected}
-use Rattle.rhai_grammar.specs.Prelude.{with_case, with_cases, with_default_collected, with_kept, with_node}
-use Rattle.rhai_grammar.specs.Prelude.{with_property, with_value}
-use Rattle.rhai_grammar.specs.Switches.{case_fault, fault_from, no_guard}
+use Rattle.rhai_grammar.specs.Prelude.{number, part, qualified, value_of, variable_of}
+use Rattle.rhai_grammar.specs.Prelude.{with_kept, with_node}
+use Rattle.rhai_grammar.specs.Prelude.{with_property}
 use Rattle.rhai_grammar.specs.declared.role.Effect.{Effect}
 use Rattle.rhai_grammar.specs.declared.role.Effect.TheVariants as effect
 use Rattle.rhai_grammar.specs.declared.role.Joining.{Joining}
@@ -23,7 +17,7 @@ use Rattle.rhai_grammar.specs.declared.role.Joining.TheVariants as joins
 use Rattle.rhai_grammar.specs.declared.role.ListKind.{ListKind}
 use Rattle.rhai_grammar.specs.declared.role.ListKind.TheVariants as lists
 use Rattle.rhai_lower.specs.declared.token.Token.TheVariants as token
-use Rattle.rhai_productions.specs.Mentions.{Mention, Reads, all_mentions, arm_mentions, block_mentions, case_mentions}
+use Rattle.rhai_productions.specs.Mentions.{Mention, Reads, all_mentions, block_mentions}
 use Rattle.rhai_productions.specs.Mentions.{is_read, mentions, property_mentions, statement_mentions}
 use Rattle.rhai_productions.specs.Mentions.{statements_mentions}
 use Rattle.rhai_productions.proofs.MentionLemmas.{More, Only, Silent, appended, call_before, prepended}

@@ -1,20 +1,19 @@
 -- The functions of a form read the names that they use: the table of productions, and the law.
-use Rattle.std.proofs.Common.{◌≡◌, ◌∙◌, Bool, true, false, List, [], ◌∷◌, ◌++◌, refl, sym, ap, append_assoc}
+use Rattle.std.proofs.Common.{◌≡◌, ◌∙◌, true, List, [], ◌∷◌, ◌++◌, refl, sym, ap, append_assoc}
 use Rattle.rhai_lower.specs.Nodes as node
-use Rattle.rhai_grammar.specs.Prelude.{calls, Context, Lexeme, Live, Met, Node, Nothing, Point, Position, Text, braces}
-use Rattle.rhai_grammar.specs.Prelude.{block_value, has_single_blocks, is_name, is_variable, no_nodes, qualified}
+use Rattle.rhai_grammar.specs.Prelude.{calls, Lexeme, Node, Nothing, Position, Text, braces}
+use Rattle.rhai_grammar.specs.Prelude.{block_value, has_single_blocks, is_name, is_variable, qualified}
 use Rattle.rhai_grammar.specs.Prelude.{qualifies, text_of, with_node}
 use Rattle.rhai_grammar.specs.Trees.{method_called, node_count}
 use Rattle.rhai_grammar.specs.declared.list.CommaList.TheVariants as lists
 use Rattle.rhai_reading.specs.Reading as R
 use Rattle.rhai_reading.specs.Reading.{Goal, Val, Script}
 use Rattle.rhai_productions.specs.Rules.{production}
-use Rattle.rhai_productions.specs.Derived as D
 use Rattle.rhai_productions.specs.Mentions.{all_mentions, block_mentions, mentions, statements_mentions}
 use Rattle.rhai_productions.specs.UseLaws.{AllReadTheirUses, FunctionsReadTheirUses}
 use Rattle.rhai_productions.specs.WrittenFunctions.{WrittenFunction, functions_in}
 use Rattle.rhai_productions.proofs.MentionArms.{faultless, literals}
-use Rattle.rhai_productions.proofs.MentionLemmas.{More, Only, after, begun, both, call_before, none, on, same, silent}
+use Rattle.rhai_productions.proofs.MentionLemmas.{More, Only, after, both, call_before, none, on, same, silent}
 use Rattle.rhai_productions.proofs.MentionLemmas.{still, unchanged}
 use Rattle.rhai_productions.proofs.MentionTrees.{made, one_node, text, with_path}
 use Rattle.rhai_productions.proofs.NumbersOfOperands.{is_true_of}

@@ -1,17 +1,16 @@
 -- What productions of operands, calls and lists keep of the names that are used.
 -- Each lemma is of the rule of its name, and goes by cases of what the next token decides.
-use Rattle.std.proofs.Common.{◌≡◌, ◌∙◌, ℕ, Bool, true, false, ◌&&◌, ◌||◌, List, [], ◌∷◌, ◌++◌, Option, Some, None, refl}
-use Rattle.std.proofs.Common.{sym, ap, subst, if◌then◌else◌}
-use Rattle.rhai_lower.specs.Nodes as node
+use Rattle.std.proofs.Common.{◌≡◌, ◌∙◌, ℕ, Bool, true, false, ◌&&◌, ◌||◌, List, [], ◌++◌, Option, Some, None, refl}
+use Rattle.std.proofs.Common.{sym, ap, if◌then◌else◌}
 use Rattle.rhai_grammar.specs.Beginnings.{is_call}
 use Rattle.rhai_grammar.specs.CaseValues.{are_literal_values}
 use Rattle.rhai_grammar.specs.Prelude.{AKey, AMember, Context, Demands, Ended, FieldsEnd, Follower, KeyRole, Lexeme, Link}
 use Rattle.rhai_grammar.specs.Prelude.{LinkSpot, Live, MemberRole, Met, NoKey, NoMember, Node, Nodes, Operator, Other}
 use Rattle.rhai_grammar.specs.Prelude.{Point, Position, Properties, Taken, Text, Unknown, bracket_link, call_tree, calls}
-use Rattle.rhai_grammar.specs.Prelude.{excludes_use, is_this, is_variable, made_block, may_be_called, may_be_closure}
-use Rattle.rhai_grammar.specs.Prelude.{may_be_value, member_link, name_tree, no_nodes, position_of, qualifies, text_of}
-use Rattle.rhai_grammar.specs.Prelude.{Item, Fine, chained, module_fault, spot_after_operand, effect, item, joining, plain_sign, code, next_at, Nothing, calling, linking}
-use Rattle.rhai_grammar.specs.Trees.{function_called, method_called, named_by, node_count}
+use Rattle.rhai_grammar.specs.Prelude.{excludes_use, is_this, is_variable, may_be_called, may_be_closure}
+use Rattle.rhai_grammar.specs.Prelude.{may_be_value, member_link, name_tree, no_nodes, qualifies, text_of}
+use Rattle.rhai_grammar.specs.Prelude.{Item, Fine, chained, module_fault, spot_after_operand, effect, item, joining, plain_sign, code, next_at, calling, linking}
+use Rattle.rhai_grammar.specs.Trees.{function_called, named_by, node_count}
 use Rattle.rhai_grammar.specs.declared.list.AfterPart.{AfterPart}
 use Rattle.rhai_grammar.specs.declared.list.AfterPart.TheVariants as after
 use Rattle.rhai_grammar.specs.declared.list.CommaList.{CommaList}
@@ -20,8 +19,6 @@ use Rattle.rhai_grammar.specs.declared.role.Beginning.{Beginning}
 use Rattle.rhai_grammar.specs.declared.role.Beginning.TheVariants as begin
 use Rattle.rhai_grammar.specs.declared.role.Calling.{Calling}
 use Rattle.rhai_grammar.specs.declared.role.Calling.TheVariants as calls_by
-use Rattle.rhai_grammar.specs.declared.role.Construct.{Construct as Kind}
-use Rattle.rhai_grammar.specs.declared.role.Construct.TheVariants as kind
 use Rattle.rhai_grammar.specs.declared.role.ItemRole.{ItemRole}
 use Rattle.rhai_grammar.specs.declared.role.ItemRole.TheVariants as place
 use Rattle.rhai_grammar.specs.declared.role.Linking.{Linking}
@@ -43,11 +40,11 @@ use Rattle.rhai_productions.specs.Mentions.{property_mentions, statement_mention
 use Rattle.rhai_productions.specs.WrittenFunctions.{free_name, is_called_by}
 use Rattle.rhai_productions.proofs.DerivedComplete.{or_other}
 use Rattle.rhai_productions.proofs.MentionArms.{collected_mentions}
-use Rattle.rhai_productions.proofs.MentionLemmas.{More, Only, Silent, after, begun, both, call_before, none, on, rather}
-use Rattle.rhai_productions.proofs.MentionLemmas.{read_none, same, silent, still, unchanged}
+use Rattle.rhai_productions.proofs.MentionLemmas.{More, Only, Silent, after, begun, both, call_before, none, on}
+use Rattle.rhai_productions.proofs.MentionLemmas.{read_none, same, still, unchanged}
 use Rattle.rhai_productions.proofs.MentionTrees.{chains, link_mentions, one_link, one_node, one_property, operator, sign}
-use Rattle.rhai_productions.proofs.MentionTrees.{text, value, valued, variable, with_path}
-use Rattle.rhai_productions.proofs.NumbersOfOperands.{is_true_of, neither, not_both, or_first, second}
+use Rattle.rhai_productions.proofs.MentionTrees.{text, value, valued, variable}
+use Rattle.rhai_productions.proofs.NumbersOfOperands.{neither, not_both, or_first, second}
 use Rattle.rhai_productions.proofs.Using.{IsFollowed, Keeps, unless_called}
 
 -- ---- what is said of goals

@@ -1,11 +1,11 @@
 -- What productions of statements, constructs and functions keep of the names that are used.
 -- Each lemma is of the rule of its name, and goes by cases of what the next token decides.
-use Rattle.std.proofs.Common.{◌≡◌, ◌∙◌, ℕ, Bool, true, false, ◌||◌, List, [], ◌∷◌, ◌++◌, Option, Some, None, refl, sym}
-use Rattle.std.proofs.Common.{ap, ap₂, append-nil, is_some, if◌then◌else◌}
+use Rattle.std.proofs.Common.{◌≡◌, ◌∙◌, ℕ, Bool, true, false, ◌||◌, List, [], ◌∷◌, ◌++◌, Option, Some, None, sym}
+use Rattle.std.proofs.Common.{ap, append-nil}
 use Rattle.std.proofs.Math.Bool.{or_assoc, or-false}
 use Rattle.rhai_lower.specs.Nodes as node
 use Rattle.rhai_grammar.specs.Prelude.{Collected, Comment, Context, Lexeme, Live, Node, Position, SlotValue, Text, Use}
-use Rattle.rhai_grammar.specs.Prelude.{captured_nodes, closure_node, ends_itself, is_among, is_name, number, text_of, variable_of}
+use Rattle.rhai_grammar.specs.Prelude.{captured_nodes, closure_node, ends_itself, is_among, number, variable_of}
 use Rattle.rhai_grammar.specs.Prelude.{with_kept}
 use Rattle.rhai_grammar.specs.declared.list.AfterPart.{AfterPart}
 use Rattle.rhai_grammar.specs.declared.list.AfterPart.TheVariants as after_part
@@ -31,15 +31,14 @@ use Rattle.rhai_reading.specs.Reading as R
 use Rattle.rhai_reading.specs.Reading.{Goal, Val}
 use Rattle.rhai_productions.specs.Schema.{Production}
 use Rattle.rhai_productions.specs.Rules as P
-use Rattle.rhai_productions.specs.Mentions.{all_mentions, block_mentions, is_read, mentions, statement_mentions}
+use Rattle.rhai_productions.specs.Mentions.{all_mentions, is_read, mentions, statement_mentions}
 use Rattle.rhai_productions.specs.Mentions.{statements_mentions}
 use Rattle.rhai_productions.specs.WrittenFunctions.{free_name}
 use Rattle.rhai_productions.proofs.MentionArms.{arm, collected_mentions, default_arm}
 use Rattle.rhai_productions.proofs.MentionLemmas.{More, Only, after, among_append, both, none, on, read_append, same}
 use Rattle.rhai_productions.proofs.MentionLemmas.{prepended, still, unchanged}
 use Rattle.rhai_productions.proofs.MentionTrees.{made, one_statement, valued, variable}
-use Rattle.rhai_productions.proofs.Using.{Keeps}
-use Rattle.rhai_productions.proofs.UsesOfOperands.{Good, KeepsIn, Right, by_either, parted}
+use Rattle.rhai_productions.proofs.UsesOfOperands.{KeepsIn, by_either, parted}
 
 -- ---- statements
 

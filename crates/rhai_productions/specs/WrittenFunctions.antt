@@ -1,7 +1,7 @@
 -- Functions and closures in a form, with the names that they use. No clause is one of a production.
-use Rattle.std.specs.Prelude.{◌&&◌, ◌||◌, ◌++◌, Bool, true, false, List, [], ◌∷◌, if◌then◌else◌}
+use Rattle.std.specs.Prelude.{◌&&◌, ◌||◌, ◌++◌, Bool, false, List, [], ◌∷◌, if◌then◌else◌}
 use Rattle.std.specs.Option.{is_some}
-use Rattle.rhai_grammar.specs.Prelude.{Context, Ended, Live, Node, SlotValue, Taken, Text, Use, excludes_use, is_among}
+use Rattle.rhai_grammar.specs.Prelude.{Ended, Node, SlotValue, Taken, Text, Use, excludes_use, is_among}
 use Rattle.rhai_grammar.specs.Prelude.{is_variable, number}
 use Rattle.rhai_reading.specs.Reading as R
 use Rattle.rhai_reading.specs.Reading.{Goal, Val}
