@@ -1,15 +1,13 @@
 -- What trees mention that are made of others: lists, chains, operators, and the arms of a `switch`.
-use Rattle.std.proofs.Common.{◌≡◌, ◌∙◌, Bool, true, false, ◌||◌, List, [], ◌∷◌, ◌++◌, Some, None, refl}
-use Rattle.std.proofs.Common.{sym, ap, ap₂, if◌then◌else◌, append_assoc, append-nil, is_some}
+use Rattle.std.proofs.Common.{◌≡◌, ◌∙◌, Bool, true, false, ◌||◌, List, [], ◌∷◌, ◌++◌, Some, None, refl, sym, ap, ap₂}
+use Rattle.std.proofs.Common.{if◌then◌else◌, append_assoc, append-nil, is_some}
 use Rattle.rhai_lower.specs.Nodes as node
 use Rattle.rhai_lower.specs.Nodes.{Arms, Cases}
 use Rattle.rhai_grammar.specs.Operators as O
 use Rattle.rhai_grammar.specs.Prelude.{Bracket, Chain, Dotted, Lexeme, Link, LinkKind, Node, Nodes, Position}
-use Rattle.rhai_grammar.specs.Prelude.{is_among, Properties, SlotValue, Text, added_text, affected, chain_of}
-use Rattle.rhai_grammar.specs.Prelude.{chained, is_last, is_variable, joined, joined_tree, link_node, made_block, nest}
-use Rattle.rhai_grammar.specs.Prelude.{number, part, qualified, value_of, variable_of}
-use Rattle.rhai_grammar.specs.Prelude.{with_kept, with_node}
-use Rattle.rhai_grammar.specs.Prelude.{with_property}
+use Rattle.rhai_grammar.specs.Prelude.{Properties, SlotValue, Text, added_text, affected, chain_of, chained, is_among}
+use Rattle.rhai_grammar.specs.Prelude.{is_last, is_variable, joined, joined_tree, link_node, made_block, nest, number}
+use Rattle.rhai_grammar.specs.Prelude.{part, qualified, value_of, variable_of, with_kept, with_node, with_property}
 use Rattle.rhai_grammar.specs.declared.role.Effect.{Effect}
 use Rattle.rhai_grammar.specs.declared.role.Effect.TheVariants as effect
 use Rattle.rhai_grammar.specs.declared.role.Joining.{Joining}
@@ -17,11 +15,9 @@ use Rattle.rhai_grammar.specs.declared.role.Joining.TheVariants as joins
 use Rattle.rhai_grammar.specs.declared.role.ListKind.{ListKind}
 use Rattle.rhai_grammar.specs.declared.role.ListKind.TheVariants as lists
 use Rattle.rhai_lower.specs.declared.token.Token.TheVariants as token
-use Rattle.rhai_productions.specs.Mentions.{Mention, Reads, all_mentions, block_mentions}
-use Rattle.rhai_productions.specs.Mentions.{is_read, mentions, property_mentions, statement_mentions}
-use Rattle.rhai_productions.specs.Mentions.{statements_mentions}
-use Rattle.rhai_productions.proofs.MentionLemmas.{More, Only, Silent, appended, call_before, prepended}
-use Rattle.rhai_productions.proofs.MentionLemmas.{same}
+use Rattle.rhai_productions.specs.Mentions.{Mention, Reads, all_mentions, block_mentions, is_read, mentions}
+use Rattle.rhai_productions.specs.Mentions.{property_mentions, statement_mentions, statements_mentions}
+use Rattle.rhai_productions.proofs.MentionLemmas.{More, Only, Silent, appended, call_before, prepended, same}
 use Rattle.rhai_productions.proofs.NumberTrees.{ends_path}
 
 -- ---- lists with one more

@@ -1,27 +1,27 @@
 -- The functions of a form read the names that they use: the table of productions, and the law.
 use Rattle.std.proofs.Common.{◌≡◌, ◌∙◌, true, List, [], ◌∷◌, ◌++◌, refl, sym, ap, append_assoc}
 use Rattle.rhai_lower.specs.Nodes as node
-use Rattle.rhai_grammar.specs.Prelude.{calls, Lexeme, Node, Nothing, Position, Text, braces}
-use Rattle.rhai_grammar.specs.Prelude.{block_value, has_single_blocks, is_name, is_variable, qualified}
-use Rattle.rhai_grammar.specs.Prelude.{qualifies, text_of, with_node}
+use Rattle.rhai_grammar.specs.Prelude.{Lexeme, Node, Nothing, Position, Text, block_value, braces, calls}
+use Rattle.rhai_grammar.specs.Prelude.{has_single_blocks, is_name, is_variable, qualified, qualifies, text_of}
+use Rattle.rhai_grammar.specs.Prelude.{with_node}
 use Rattle.rhai_grammar.specs.Trees.{method_called, node_count}
 use Rattle.rhai_grammar.specs.declared.list.CommaList.TheVariants as lists
 use Rattle.rhai_reading.specs.Reading as R
-use Rattle.rhai_reading.specs.Reading.{Goal, Val, Script}
+use Rattle.rhai_reading.specs.Reading.{Goal, Script, Val}
 use Rattle.rhai_productions.specs.Rules.{production}
 use Rattle.rhai_productions.specs.Mentions.{all_mentions, block_mentions, mentions, statements_mentions}
 use Rattle.rhai_productions.specs.UseLaws.{AllReadTheirUses, FunctionsReadTheirUses}
 use Rattle.rhai_productions.specs.WrittenFunctions.{WrittenFunction, functions_in}
 use Rattle.rhai_productions.proofs.MentionArms.{faultless, literals}
-use Rattle.rhai_productions.proofs.MentionLemmas.{More, Only, after, both, call_before, none, on, same, silent}
-use Rattle.rhai_productions.proofs.MentionLemmas.{still, unchanged}
+use Rattle.rhai_productions.proofs.MentionLemmas.{More, Only, after, both, call_before, none, on, same, silent, still}
+use Rattle.rhai_productions.proofs.MentionLemmas.{unchanged}
 use Rattle.rhai_productions.proofs.MentionTrees.{made, one_node, text, with_path}
 use Rattle.rhai_productions.proofs.NumbersOfOperands.{is_true_of}
 use Rattle.rhai_productions.proofs.Passing.{leaves_its}
 use Rattle.rhai_productions.proofs.Using as U
 use Rattle.rhai_productions.proofs.Using.{Keeps}
-use Rattle.rhai_productions.proofs.UsesOfOperands.{Good, Right, by_either, call_of, call_path, called, element, field}
-use Rattle.rhai_productions.proofs.UsesOfOperands.{binary, follower, key, links, operand, parted, path_excludes, primary}
+use Rattle.rhai_productions.proofs.UsesOfOperands.{Good, Right, binary, by_either, call_of, call_path, called, element}
+use Rattle.rhai_productions.proofs.UsesOfOperands.{field, follower, key, links, operand, parted, path_excludes, primary}
 use Rattle.rhai_productions.proofs.UsesOfOperands.{right}
 use Rattle.rhai_productions.proofs.UsesOfStatements.{action, arm_end, arms, closure_by, construct, default_end, do_end}
 use Rattle.rhai_productions.proofs.UsesOfStatements.{export, inside, parameter, parameters, statement, statements}
@@ -66,8 +66,8 @@ table (R.Fields c w opening before) n = λ v m us u. field c w opening before v 
 table (R.Segments c w opening before) n = λ p m vs a room fs o us h t q ts u.
     let one = on (after a (one_node before (block_value (braces fs p t.0)) h)) (still u) in
     let more = same (text (with_node before (block_value (braces fs p t.0))) t.1 t.3) one in
-    by_either (R.Segments c w opening before) (λ xs next us. More (all_mentions before) (all_mentions xs) us) t.2 _ _ q []
-    ((vs ++ us) ++ ts) more (λ xs r ws k. on more k)
+    by_either (R.Segments c w opening before) (λ xs next us. More (all_mentions before) (all_mentions xs) us) t.2
+    _ _ q [] ((vs ++ us) ++ ts) more (λ xs r ws k. on more k)
 table R.TextAfter n = λ closing l at m. none
 table (R.Jump c w at) n = (λ e room x m us h. h, λ e room. none)
 table (R.NextKey c before) n = λ v e. key c before v n

@@ -1,15 +1,16 @@
 -- What productions of operands, calls and lists keep of the names that are used.
 -- Each lemma is of the rule of its name, and goes by cases of what the next token decides.
-use Rattle.std.proofs.Common.{◌≡◌, ◌∙◌, ℕ, Bool, true, false, ◌&&◌, ◌||◌, List, [], ◌++◌, Option, Some, None, refl}
-use Rattle.std.proofs.Common.{sym, ap, if◌then◌else◌}
+use Rattle.std.proofs.Common.{◌≡◌, ◌∙◌, ℕ, Bool, true, false, ◌&&◌, ◌||◌, List, [], ◌++◌, Option, Some, None, refl, sym}
+use Rattle.std.proofs.Common.{ap, if◌then◌else◌}
 use Rattle.rhai_grammar.specs.Beginnings.{is_call}
 use Rattle.rhai_grammar.specs.CaseValues.{are_literal_values}
-use Rattle.rhai_grammar.specs.Prelude.{AKey, AMember, Context, Demands, Ended, FieldsEnd, Follower, KeyRole, Lexeme, Link}
-use Rattle.rhai_grammar.specs.Prelude.{LinkSpot, Live, MemberRole, Met, NoKey, NoMember, Node, Nodes, Operator, Other}
-use Rattle.rhai_grammar.specs.Prelude.{Point, Position, Properties, Taken, Text, Unknown, bracket_link, call_tree, calls}
-use Rattle.rhai_grammar.specs.Prelude.{excludes_use, is_this, is_variable, may_be_called, may_be_closure}
-use Rattle.rhai_grammar.specs.Prelude.{may_be_value, member_link, name_tree, no_nodes, qualifies, text_of}
-use Rattle.rhai_grammar.specs.Prelude.{Item, Fine, chained, module_fault, spot_after_operand, effect, item, joining, plain_sign, code, next_at, calling, linking}
+use Rattle.rhai_grammar.specs.Prelude.{AKey, AMember, Context, Demands, Ended, FieldsEnd, Fine, Follower, Item, KeyRole}
+use Rattle.rhai_grammar.specs.Prelude.{Lexeme, Link, LinkSpot, Live, MemberRole, Met, Node, Nodes, NoKey, NoMember}
+use Rattle.rhai_grammar.specs.Prelude.{Operator, Other, Point, Position, Properties, Taken, Text, Unknown, bracket_link}
+use Rattle.rhai_grammar.specs.Prelude.{call_tree, calling, calls, chained, code, effect, excludes_use, is_this}
+use Rattle.rhai_grammar.specs.Prelude.{is_variable, item, joining, linking, may_be_called, may_be_closure, may_be_value}
+use Rattle.rhai_grammar.specs.Prelude.{member_link, module_fault, name_tree, next_at, no_nodes, plain_sign, qualifies}
+use Rattle.rhai_grammar.specs.Prelude.{spot_after_operand, text_of}
 use Rattle.rhai_grammar.specs.Trees.{function_called, named_by, node_count}
 use Rattle.rhai_grammar.specs.declared.list.AfterPart.{AfterPart}
 use Rattle.rhai_grammar.specs.declared.list.AfterPart.TheVariants as after
@@ -29,7 +30,7 @@ use Rattle.rhai_grammar.specs.declared.role.OperandStart.{OperandStart}
 use Rattle.rhai_grammar.specs.declared.role.OperandStart.TheVariants as first
 use Rattle.rhai_reading.specs.Reading as R
 use Rattle.rhai_reading.specs.Reading.{Goal, Val}
-use Rattle.rhai_reading.proofs.Looks.{op_at, fine, no_other}
+use Rattle.rhai_reading.proofs.Looks.{fine, no_other, op_at}
 use Rattle.rhai_productions.specs.Schema.{Production, part}
 use Rattle.rhai_productions.specs.Rules as P
 use Rattle.rhai_productions.specs.Rules.{production}
@@ -42,8 +43,8 @@ use Rattle.rhai_productions.proofs.DerivedComplete.{or_other}
 use Rattle.rhai_productions.proofs.MentionArms.{collected_mentions}
 use Rattle.rhai_productions.proofs.MentionLemmas.{More, Only, Silent, after, begun, both, call_before, none, on}
 use Rattle.rhai_productions.proofs.MentionLemmas.{read_none, same, still, unchanged}
-use Rattle.rhai_productions.proofs.MentionTrees.{chains, link_mentions, one_link, one_node, one_property, operator, sign}
-use Rattle.rhai_productions.proofs.MentionTrees.{text, value, valued, variable}
+use Rattle.rhai_productions.proofs.MentionTrees.{chains, link_mentions, one_link, one_node, one_property, operator}
+use Rattle.rhai_productions.proofs.MentionTrees.{sign, text, value, valued, variable}
 use Rattle.rhai_productions.proofs.NumbersOfOperands.{neither, not_both, or_first, second}
 use Rattle.rhai_productions.proofs.Using.{IsFollowed, Keeps, unless_called}
 
@@ -265,8 +266,8 @@ path_excludes true false b e = e
 path_excludes false a b e = absurd cc
 
 -- after its path
-pub call_path : (c : Context) (w : Live) (y x : Node) (l n : Lexeme) (us : List Text) → (is_variable y && excludes_use l) ≡ true
-    → Only [] us → Silent (mentions x)
+pub call_path : (c : Context) (w : Live) (y x : Node) (l n : Lexeme) (us : List Text)
+    → (is_variable y && excludes_use l) ≡ true → Only [] us → Silent (mentions x)
     → KeepsIn (R.Postfix c w y) (λ z ns. More (uncalled y l) (mentions z) ns) (P.call_of c w x) n [] us
 call_path c w y x l n us e q s = (
   λ is call m vs k fault. replaced (mentions y) _ e (after q (call_read x call.0 call.1 k)),
@@ -308,8 +309,8 @@ pub element : (c : Context) (w : Live) (opening : Position) (before : Nodes) (v 
     (P.element_by c w opening before v) n [] []
 element c w opening before place.End n = λ at m. unchanged (all_mentions before)
 element c w opening before place.Item n = λ room x m us h v e.
-    parted (R.Elements c w opening before) (λ xs us. More (all_mentions before) (all_mentions xs) us) lists.Array _ _ v m
-    [] us (λ o xs q vs k. on (one_node before x h) k) (λ o. one_node before x h)
+    parted (R.Elements c w opening before) (λ xs us. More (all_mentions before) (all_mentions xs) us) lists.Array
+    _ _ v m [] us (λ o xs q vs k. on (one_node before x h) k) (λ o. one_node before x h)
 element c w opening before place.Nothing n = tt
 
 pub key : (c : Context) (before : Properties) (v : KeyRole) (n : Lexeme)

@@ -1,8 +1,8 @@
 -- What productions of statements, constructs and functions keep of the names that are used.
 -- Each lemma is of the rule of its name, and goes by cases of what the next token decides.
-use Rattle.std.proofs.Common.{◌≡◌, ◌∙◌, ℕ, Bool, true, false, ◌||◌, List, [], ◌∷◌, ◌++◌, Option, Some, None, sym}
-use Rattle.std.proofs.Common.{ap, append-nil}
-use Rattle.std.proofs.Math.Bool.{or_assoc, or-false}
+use Rattle.std.proofs.Common.{◌≡◌, ◌∙◌, ℕ, Bool, true, false, ◌||◌, List, [], ◌∷◌, ◌++◌, Option, Some, None, sym, ap}
+use Rattle.std.proofs.Common.{append-nil}
+use Rattle.std.proofs.Math.Bool.{or-false, or_assoc}
 use Rattle.rhai_lower.specs.Nodes as node
 use Rattle.rhai_grammar.specs.Prelude.{Collected, Comment, Context, Lexeme, Live, Node, Position, SlotValue, Text, Use}
 use Rattle.rhai_grammar.specs.Prelude.{captured_nodes, closure_node, ends_itself, is_among, number, variable_of}
@@ -31,12 +31,11 @@ use Rattle.rhai_reading.specs.Reading as R
 use Rattle.rhai_reading.specs.Reading.{Goal, Val}
 use Rattle.rhai_productions.specs.Schema.{Production}
 use Rattle.rhai_productions.specs.Rules as P
-use Rattle.rhai_productions.specs.Mentions.{all_mentions, is_read, mentions, statement_mentions}
-use Rattle.rhai_productions.specs.Mentions.{statements_mentions}
+use Rattle.rhai_productions.specs.Mentions.{all_mentions, is_read, mentions, statement_mentions, statements_mentions}
 use Rattle.rhai_productions.specs.WrittenFunctions.{free_name}
 use Rattle.rhai_productions.proofs.MentionArms.{arm, collected_mentions, default_arm}
-use Rattle.rhai_productions.proofs.MentionLemmas.{More, Only, after, among_append, both, none, on, read_append, same}
-use Rattle.rhai_productions.proofs.MentionLemmas.{prepended, still, unchanged}
+use Rattle.rhai_productions.proofs.MentionLemmas.{More, Only, after, among_append, both, none, on, prepended}
+use Rattle.rhai_productions.proofs.MentionLemmas.{read_append, same, still, unchanged}
 use Rattle.rhai_productions.proofs.MentionTrees.{made, one_statement, valued, variable}
 use Rattle.rhai_productions.proofs.UsesOfOperands.{KeepsIn, by_either, parted}
 
@@ -76,26 +75,24 @@ statement c w start.Expression n = λ at room f m us h. h
 abbrev ListRight : node.Statements → node.Statements × Live → List Text → Type 0
 ListRight before fs us = More (statements_mentions before) (statements_mentions fs.0) us
 
-pub separated : (goal : Closing × Context × Live × node.Statements) (closing : Closing) (c : Context) (w : Live)
-    (before fs : node.Statements) (v : AfterStatement) (n : Lexeme) (us : List Text)
-    → More (statements_mentions before) (statements_mentions fs) us
-    → KeepsIn (R.Statements goal.0 goal.1 goal.2 goal.3) (ListRight before) (P.separated closing c w fs v) n [] us
-separated goal closing c w before fs ends.SemiColon n us h = λ at m gs o vs k. on h k
-separated goal closing c w before fs ends.Close n us h = h
-separated goal closing c w before fs ends.Nothing n us h = tt
+separated : (closing : Closing) (c : Context) (w v : Live) (before fs : node.Statements) (y : AfterStatement) (n : Lexeme)
+    (us : List Text) → More (statements_mentions before) (statements_mentions fs) us
+    → KeepsIn (R.Statements closing c w before) (ListRight before) (P.separated closing c v fs y) n [] us
+separated closing c w v before fs ends.SemiColon n us h = λ at m gs o vs k. on h k
+separated closing c w v before fs ends.Close n us h = h
+separated closing c w v before fs ends.Nothing n us h = tt
 
-after_one : (goal : Closing × Context × Live × node.Statements) (closing : Closing) (c : Context) (w : Live)
-    (before fs : node.Statements) (b : Bool) (n : Lexeme) (us : List Text)
-    → More (statements_mentions before) (statements_mentions fs) us
-    → KeepsIn (R.Statements goal.0 goal.1 goal.2 goal.3) (ListRight before) (P.after_one closing c w fs b) n [] us
-after_one goal closing c w before fs true n us h = λ gs m vs k. on h k
-after_one goal closing c w before fs false n us h = λ v e. separated goal closing c w before fs v n us h
+after_one : (closing : Closing) (c : Context) (w v : Live) (before fs : node.Statements) (b : Bool) (n : Lexeme)
+    (us : List Text) → More (statements_mentions before) (statements_mentions fs) us
+    → KeepsIn (R.Statements closing c w before) (ListRight before) (P.after_one closing c v fs b) n [] us
+after_one closing c w v before fs true n us h = λ gs m vs k. on h k
+after_one closing c w v before fs false n us h = λ y e. separated closing c w v before fs y n us h
 
 pub statements : (closing : Closing) (c : Context) (w : Live) (fs : node.Statements) (v : StatementRole) (n : Lexeme)
     → KeepsIn (R.Statements closing c w fs) (ListRight fs) (P.statements closing c w fs v) n [] []
 statements closing c w fs stands.Close n = unchanged (statements_mentions fs)
 statements closing c w fs stands.Statement n = λ f m us h.
-    after_one (closing, c, w, fs) closing c f.1 fs (with_kept fs f.0) (ends_itself f.0) m us (one_statement fs f.0 h)
+    after_one closing c w f.1 fs (with_kept fs f.0) (ends_itself f.0) m us (one_statement fs f.0 h)
 statements closing c w fs stands.Nothing n = tt
 
 -- ---- constructs
@@ -170,13 +167,13 @@ abbrev used_after : List SlotValue → List Use → List Text → List Text
 used_after slots [] names = names
 used_after slots (u ∷ us) names = used_after slots us (names ++ free_name false u slots)
 
-captured : (c inner : Context) (w v : Live) (at : Position) (by : Bars) (Q : Node → List Text → Type 0) (us : List Use)
+captured : (c : Context) (w : Live) (at : Position) (by : Bars) (Q : Node → List Text → Type 0) (us : List Use)
     (p : Production Node) (n : Lexeme) (own names : List Text)
     → KeepsIn (R.Closure c w at by) Q p n own (used_after w.slots us names)
-    → KeepsIn (R.Closure c w at by) Q (P.captured us inner v p) n own names
-captured c inner w v at by Q [] p n own names h = h
-captured c inner w v at by Q (u ∷ us) p n own names h =
-    captured c inner w v at by Q us p n own (names ++ free_name false u w.slots) h
+    → KeepsIn (R.Closure c w at by) Q (P.captured us c w p) n own names
+captured c w at by Q [] p n own names h = h
+captured c w at by Q (u ∷ us) p n own names h =
+    captured c w at by Q us p n own (names ++ free_name false u w.slots) h
 
 -- these names, and those that the captured nodes read
 handed : (name : Text) (slots : List SlotValue) (us : List Use) (names : List Text)
@@ -212,7 +209,7 @@ closure_of : (c : Context) (w : Live) (at : Position) (by : Bars) (ns : List Tex
     → Only [] names
     → KeepsIn (R.Closure c w at by) (λ x us. Only (mentions x) us) (P.closure_of c w at ns) n [] names
 closure_of c w at by ns n names q = λ room f us i m own h.
-    captured c c w w at by (λ x us. Only (mentions x) us) us _ m own names
+    captured c w at by (λ x us. Only (mentions x) us) us _ m own names
     (same (made f) h, closure at i us ns w names q)
 
 pub closure_by : (c : Context) (w : Live) (at : Position) (by v : Bars) (n : Lexeme)

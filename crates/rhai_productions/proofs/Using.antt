@@ -2,19 +2,20 @@
 use Rattle.std.proofs.Common.{◌≡◌, ◌∙◌, ℕ, Bool, true, false, ◌&&◌, List, [], ◌∷◌, ◌++◌, map, refl, sym, ap, ap₂, subst}
 use Rattle.std.proofs.Common.{append_assoc, append-nil, if◌then◌else◌}
 use Rattle.std.proofs.lemmas.List.{map-append}
-use Rattle.rhai_grammar.specs.Prelude.{Node, Lexeme, Position, Item, code, text, Point, Use, Ended, Fine, Demands, Nothing, Met}
-use Rattle.rhai_grammar.specs.Prelude.{past, next_at, adding, capturing, with_captured, Text, excludes_use, is_variable}
+use Rattle.rhai_grammar.specs.Prelude.{Demands, Ended, Fine, Item, Lexeme, Met, Node, Nothing, Point, Position, Text}
+use Rattle.rhai_grammar.specs.Prelude.{Use, adding, capturing, code, excludes_use, is_variable, next_at, past, text}
+use Rattle.rhai_grammar.specs.Prelude.{with_captured}
 use Rattle.rhai_grammar.specs.Delivered as M
 use Rattle.rhai_reading.specs.Reading as R
 use Rattle.rhai_reading.specs.Reading.{Goal, Val}
-use Rattle.rhai_reading.proofs.Looks.{op_at, fine, no_other, or_wrong}
+use Rattle.rhai_reading.proofs.Looks.{fine, no_other, op_at, or_wrong}
 use Rattle.rhai_productions.specs.Schema.{Production, Seen, view}
 use Rattle.rhai_productions.specs.Schema as S
 use Rattle.rhai_productions.specs.Rules.{production}
 use Rattle.rhai_productions.specs.Derived as F
-use Rattle.rhai_productions.specs.Derived.{given, take, this, if_so, if_not, choose, here, must, knows, adds, uses}
-use Rattle.rhai_productions.specs.Derived.{captures, part, literal, apart, in_text, form}
-use Rattle.rhai_productions.specs.Events.{ended_in, ends_only, events, events_in, spelling_in}
+use Rattle.rhai_productions.specs.Derived.{adds, apart, captures, choose, form, given, here, if_not, if_so, in_text}
+use Rattle.rhai_productions.specs.Derived.{knows, literal, must, part, take, this, uses}
+use Rattle.rhai_productions.specs.Events.{Event, ended_in, ends_only, events, events_in, spelling_in}
 use Rattle.rhai_productions.specs.WrittenFunctions.{WrittenFunction, free_name, free_names, free_names_in, functions_in}
 use Rattle.rhai_productions.specs.WrittenFunctions.{functions_of, is_called_by, live_slots, outside, own_names}
 use Rattle.rhai_productions.proofs.DerivedComplete.{or_other}
@@ -206,13 +207,21 @@ module _ (Right : (g : Goal) → Val g → (first next : Lexeme) → (names : Li
 
 -- ---- the functions of a form are those that end in it
 
+abbrev ended_by : List WrittenFunction → List Ended
+ended_by ws = map (λ w. w.ended) ws
+
+joined : (a b : List Event) (us vs : List WrittenFunction) → ended_in a ≡ ended_by us → ended_in b ≡ ended_by vs
+    → ended_in (a ++ b) ≡ ended_by (us ++ vs)
+joined a b us vs h k =
+    ended_on a b ∙ ap₂ (λ x y. x ++ y) h k ∙ sym (map-append (λ (w : WrittenFunction). w.ended) us vs)
+
 mutual
   pub functions_end : {g : Goal} {x : Val g} (f : F.Form production g x)
-      → ended_in (events production f) ≡ map (λ w. w.ended) (functions_in production f)
+      → ended_in (events production f) ≡ ended_by (functions_in production f)
   functions_end (form f) = ends f []
 
   ends : {h : Goal} {p : Production (Val h)} {x : Val h} (f : F.Filled production h p x) (own : List Text)
-      → ended_in (events_in production f) ≡ map (λ w. w.ended) (functions_of production f own)
+      → ended_in (events_in production f) ≡ ended_by (functions_of production f own)
   ends given own = refl
   ends (take l at f) own = ends f own
   ends (this l at f) own = ends f own
@@ -227,17 +236,12 @@ mutual
   ends (captures f) own = ends f own
   ends (part {g = g} v f rest) own =
       let names = own_names g (free_names production f) own in
-      ended_on (events production f) (events_in production rest)
-      ∙ ap₂ (λ a b. a ++ b) (functions_end f) (ends rest names)
-      ∙ sym (map-append (λ (w : WrittenFunction). w.ended) (functions_in production f) (functions_of production rest names))
+      joined (events production f) (events_in production rest) _ _ (functions_end f) (ends rest names)
   ends (literal {g = g} v f rest) own =
       let names = own_names g (free_names production f) own in
-      ended_on (events production f) (events_in production rest)
-      ∙ ap₂ (λ a b. a ++ b) (functions_end f) (ends rest names)
-      ∙ sym (map-append (λ (w : WrittenFunction). w.ended) (functions_in production f) (functions_of production rest names))
+      joined (events production f) (events_in production rest) _ _ (functions_end f) (ends rest names)
   ends (apart v us n f rest) own =
       let names = free_names production f in
-      ended_on (ends_only (events production f)) (events_in production rest)
-      ∙ ap₂ (λ a b. a ++ b) (ended_only (events production f) ∙ functions_end f) (ends rest names)
-      ∙ sym (map-append (λ (w : WrittenFunction). w.ended) (functions_in production f) (functions_of production rest names))
+      joined (ends_only (events production f)) (events_in production rest) _ _
+      (ended_only (events production f) ∙ functions_end f) (ends rest names)
   ends (in_text closing l at f) own = ends f own

@@ -1,14 +1,20 @@
 -- Functions and closures in a form, with the names that they use. No clause is one of a production.
-use Rattle.std.specs.Prelude.{◌&&◌, ◌||◌, ◌++◌, Bool, false, List, [], ◌∷◌, if◌then◌else◌}
+use Rattle.std.specs.Prelude.{◌&&◌, ◌||◌, ◌++◌, Bool, false, List, [], ◌∷◌, None, codes, map, refl, ◌≡◌, if◌then◌else◌}
 use Rattle.std.specs.Option.{is_some}
-use Rattle.rhai_grammar.specs.Prelude.{Ended, Node, SlotValue, Taken, Text, Use, excludes_use, is_among}
-use Rattle.rhai_grammar.specs.Prelude.{is_variable, number}
+use Rattle.rhai_grammar.specs.Prelude.{Context, Ended, Live, Name, Node, Position, Sign, SlotValue, Taken, Text, Use}
+use Rattle.rhai_grammar.specs.Prelude.{closure_node, code, excludes_use, expression, is_among, is_variable, name_tree}
+use Rattle.rhai_grammar.specs.Prelude.{number, parameters_live, place, variable}
+use Rattle.rhai_lower.specs.Nodes.{Named}
+use Rattle.rhai_grammar.specs.Contexts.{nothing_live}
+use Rattle.rhai_grammar.specs.declared.role.Bars.TheVariants as bars
+use Rattle.rhai_lower.specs.declared.token.Token.TheVariants as token
 use Rattle.rhai_reading.specs.Reading as R
 use Rattle.rhai_reading.specs.Reading.{Goal, Val}
 use Rattle.rhai_productions.specs.Schema.{Production}
-use Rattle.rhai_productions.specs.Derived.{given, take, this, if_so, if_not, choose, here, must, knows, adds, uses}
-use Rattle.rhai_productions.specs.Derived.{captures, part, literal, apart, in_text, form, Form, Filled}
-use Rattle.rhai_productions.specs.Events.{spelling_in}
+use Rattle.rhai_productions.specs.Rules.{production}
+use Rattle.rhai_productions.specs.Derived.{Filled, Form, adds, apart, captures, choose, form, given, here, if_not}
+use Rattle.rhai_productions.specs.Derived.{if_so, in_text, knows, literal, must, part, take, this, uses}
+use Rattle.rhai_productions.specs.Events.{spelling_in, taken}
 
 -- a function or closure as it is written: what it gives to the library, and the names that are used in its body
 pub record WrittenFunction : Type 0 where
@@ -98,3 +104,50 @@ module _ (rule : (g : Goal) → Production (Val g)) where
         functions_in f ++ functions_of rest (own_names g (free_names f) names)
     functions_of (apart v us n f rest) names = functions_in f ++ functions_of rest (free_names f)
     functions_of (in_text closing l at f) names = functions_of f names
+
+-- ---- an example
+
+abbrev example_parameter : Live
+example_parameter = parameters_live (codes "a" ∷ [])
+
+abbrev example_name : Node
+example_name = name_tree example_parameter.slots false (codes "b") (place 1 5)
+
+-- `b` as an expression before the end mark
+abbrev example_expression : (context : Context) → Form production (R.Expression context example_parameter) example_name
+example_expression context = form (here (Name (codes "b")) (place 1 5) (must (
+    part example_name (form (choose (Name (codes "b")) (place 1 5) (
+    part example_name (form (choose (Name (codes "b")) (place 1 5) (
+    this (Name (codes "b")) (place 1 5) (uses (Sign token.EOF) (place 1 6) given)))) (
+    part example_name (form (if_not (if_not given))) (
+    part [] (form (choose (Sign token.EOF) (place 1 6) (must given))) (must given)))))) (
+    part example_name (form (part None (form (choose (Sign token.EOF) (place 1 6) given)) given)) given))))
+
+abbrev example_captured : List Use
+example_captured = record { name = codes "b"; at = place 1 5 } ∷ []
+
+-- `|a| b`
+abbrev example_closure : (context : Context) → Form production
+    (R.Closure context nothing_live (place 1 1) bars.List)
+    (closure_node (place 1 1) 0 example_captured (codes "a" ∷ []) nothing_live)
+example_closure context = form (knows (
+    part (codes "a" ∷ []) (form (choose (Name (codes "a")) (place 1 2) (this (Name (codes "a")) (place 1 2) (must (
+    choose (Sign token.Pipe) (place 1 3) (this (Sign token.Pipe) (place 1 3) given)))))) (must (
+    apart (expression example_name) example_captured 0 (form (if_not (
+    part (expression example_name, example_parameter) (form (choose (Name (codes "b")) (place 1 5) (
+    here (Name (codes "b")) (place 1 5) (must (
+    part (expression example_name) (form (part example_name (example_expression _) (if_not given))) given))))) given)))
+    (captures (knows (adds given)))))))
+
+abbrev example_functions : Context → List WrittenFunction
+example_functions context = functions_in production (example_closure context)
+
+-- The closure uses `b`, which is captured, and so used around it, too. A variable before `(` is no use.
+example : ((c : Context) → map (λ w. w.names) (example_functions c) ≡ (codes "b" ∷ []) ∷ [])
+    × ((c : Context) → map (λ w. w.ended.function.parameters) (example_functions c)
+    ≡ (codes "b" ∷ codes "a" ∷ []) ∷ [])
+    × ((c : Context) → free_names production (example_closure c) ≡ codes "b" ∷ [])
+    × ((c : Context) (w : Live) (x : Named) (at : Position) → outside (R.Primary c w) (variable x at)
+    (taken code (Sign token.LeftParen) (place 1 2) ∷ []) (x.name ∷ []) ≡ [])
+unfolding number
+example = (λ c. refl, λ c. refl, λ c. refl, λ c w x at. refl)
