@@ -12,15 +12,14 @@ use Rattle.rhai_base.specs.declared.settings.ParseSettings.{ParseSettings}
 use Rattle.rhai_parser.specs.Engines.{EngineValue}
 use Rattle.std.specs.Prelude.{◌⊎◌}
 use Rattle.rhai_grammar.specs.Cursors.{Cursor}
-use Rattle.rhai_grammar.specs.Depths.{statements_depth}
-use Rattle.rhai_grammar.specs.Forms.{Statements}
 use Rattle.rhai_grammar.specs.Libraries.{Library}
 use Rattle.rhai_grammar.specs.NumberedLibraries.{IsOrderly}
-use Rattle.rhai_grammar.specs.Promises.{IsWritten, scripts}
 use Rattle.rhai_parser.specs.Nesting.{KeepsCounts, NestsAsWritten, StaysWithin}
 use Rattle.rhai_reading.specs.Nesting.{Nesting, entered}
-use Rattle.rhai_reading.proofs.DepthMain.{script_nests}
-use Rattle.rhai_reading.proofs.Main.{IsNew}
+use Rattle.rhai_reading.proofs.Entries.{IsNew}
+use Rattle.rhai_productions.specs.Derived.{depth}
+use Rattle.rhai_productions.specs.Rules.{production}
+use Rattle.rhai_productions.proofs.DerivedDepth.{nests}
 use Rattle.std.proofs.Math.Nat.{le_refl}
 use Rattle.rhai_base.specs.Counts.{counts_of}
 use Rattle.rhai_base.specs.Frames.{FrameValue}
@@ -92,12 +91,12 @@ pub nests_written : (c : Context) (w : Live) (s left : Progress) (x : node.State
     → s.nesting ≡ entered (record { active = 0; peak = 0 }) → left.nesting.peak ≡ after.peak
     → result_of (Script c w) s ≡ Done x left → NestsAsWritten c w s.library s.cursor after
 unfolding one_more
-nests_written c w s left x after new first last e fs written =
+nests_written c w s left x after new first last e f written =
     let active : s.nesting.active ≡ 1 = ap (λ (n : Nesting). n.active) first in
     let peak : s.nesting.peak ≡ 1 = ap (λ (n : Nesting). n.peak) first in
-    subst (λ p. (2 ^ 64 - 1 ≤ p) ⊎ (1 + statements_depth fs ≤ p)) last (
-    subst (λ a. (2 ^ 64 - 1 ≤ left.nesting.peak) ⊎ (a + statements_depth fs ≤ left.nesting.peak)) active
-    (script_nests c w s left new x fs written (omega (arith, active, peak)) e))
+    subst (λ p. (2 ^ 64 - 1 ≤ p) ⊎ (1 + depth production f.1 ≤ p)) last (
+    subst (λ a. (2 ^ 64 - 1 ≤ left.nesting.peak) ⊎ (a + depth production f.1 ≤ left.nesting.peak)) active
+    (nests (Script c w) s new f written left x (omega (arith, active, peak)) e))
 
 -- what holds of all results holds of one
 pub if_ok : {A : Type 0} {P : Type 0} (r : Result A ParseError) → P → IfOk r (λ x. P)
@@ -107,14 +106,14 @@ if_ok (Err e) p = tt
 -- the entry takes the peak
 pub nests_left : {A : Type 0} (c : Context) (w : Live) (before : Library) (s : Cursor) (old read left : Counts) (r : Result A ParseError)
     → left ≡ with_peak old read.peak → IfOk r (λ x. NestsAsWritten c w before s read) → IfOk r (λ x. NestsAsWritten c w before s left)
-nests_left c w before s old read left (Ok x) reached nests = λ fs written.
-    subst (λ (n : Counts). (2 ^ 64 - 1 ≤ n.peak) ⊎ (1 + statements_depth fs ≤ n.peak)) (sym reached) (by _ (nests fs written))
+nests_left c w before s old read left (Ok x) reached at_least = λ f written.
+    subst (λ (n : Counts). (2 ^ 64 - 1 ≤ n.peak) ⊎ (1 + depth production f.1 ≤ n.peak)) (sym reached) (by _ (at_least f written))
   where
     by : (d : ℕ) → (2 ^ 64 - 1 ≤ read.peak) ⊎ (d ≤ read.peak)
         → (2 ^ 64 - 1 ≤ max old.peak read.peak) ⊎ (d ≤ max old.peak read.peak)
     by d (inl top) = let right = le-max_right old.peak read.peak in inl (omega (arith, top, right))
     by d (inr deep) = let right = le-max_right old.peak read.peak in inr (omega (arith, deep, right))
-nests_left c w before s old read left (Err e) reached nests = tt
+nests_left c w before s old read left (Err e) reached at_least = tt
 
 -- what nests, of counts
 abbrev pub seen_of : Counts → Nesting

@@ -24,12 +24,12 @@ use crate::reader::Reader;
 use crate::shared::Shared;
 use crate::stmt::asks::{end_assignment, next_var_name, starts_expression};
 use crate::stmt::definitions::{define_as, export_name};
+use rhai_base::allowed::{test_global, test_loop};
 use rhai_base::cursor::{peek, skip, take};
 use rhai_base::leaves::statements::{
     assigns, has_value, list_ends, next_alias, parse_var_name, statement_continues,
     what_is_exported, what_starts,
 };
-use rhai_base::places::{test_global, test_loop};
 use rhai_base::{Frame, ParseSettingFlags, ParseSettings};
 use rhai_grammar::{Closing, ParseResult, StatementStart};
 use rhai_lower::{Expr, Position, Stmt};

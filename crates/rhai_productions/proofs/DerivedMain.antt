@@ -1,7 +1,7 @@
 -- What is promised of what is read for a goal, in terms of forms that follow from productions.
 use Rattle.std.proofs.Common.{◌≡◌, ℕ, Bool, true, false, refl, sym, ◌∙◌}
 use Rattle.std.specs.Prelude.{Result, Ok, Err, IfErr}
-use Rattle.rhai_grammar.specs.Prelude.{is_memory_cause, Point, is_memory, Context, Live, Demands, Met, Missed, Library}
+use Rattle.rhai_grammar.specs.Prelude.{is_memory_cause, Point, is_memory, Context, Live, Met, Missed, Library}
 use Rattle.rhai_grammar.specs.Prelude.{StandsAtLast}
 use Rattle.rhai_grammar.specs.Promises.{Returns}
 use Rattle.rhai_grammar.specs.Causes.{refusal_of, is_for_memory}
@@ -40,10 +40,10 @@ by_memory : (b : Bool) → (b ≡ false → ⊥) → b ≡ true
 by_memory true h = refl
 by_memory false h = absurd (h refl)
 
-module _ {F O X : Type 0} {g : Goal} {whole : F → Demands} {stopping : O → Demands} {tree_of : F → Val g}
-    (entry : Entry g whole stopping tree_of) (Is : F → X → Type 0) (s left : Progress) where
-  reads_none : (e : ParseError) → is_for_memory e ≡ true
-      → ReadsWhole whole stopping Is s.library left.library s.cursor left.cursor (Err e)
+module _ {X : Type 0} {g : Goal} (entry : Entry g (written g) (unwritten g) (tree_of g)) (Is : Written g → X → Type 0)
+    (s left : Progress) where
+  pub reads_none : (e : ParseError) → is_for_memory e ≡ true
+      → ReadsWhole g Is s.library left.library s.cursor left.cursor (Err e)
   reads_none e out = record {
     accepted = tt;
     only = λ f other written. out;
@@ -52,8 +52,8 @@ module _ {F O X : Type 0} {g : Goal} {whole : F → Demands} {stopping : O → D
 
   -- a form that was read, and what is made of it
   pub reads_done : (v : Val g) (result : Result X ParseError) → IsNew s → result_of g s ≡ R.Done v left
-      → IfErr result (λ e. is_for_memory e ≡ true) → ((f : F) → tree_of f ≡ v → Returns (Is f) result)
-      → ReadsWhole whole stopping Is s.library left.library s.cursor left.cursor result
+      → IfErr result (λ e. is_for_memory e ≡ true) → ((f : Written g) → tree_of g f ≡ v → Returns (Is f) result)
+      → ReadsWhole g Is s.library left.library s.cursor left.cursor result
   reads_done v (Ok x) mode e out is = record {
     accepted = (let w = E.accepted entry s left v mode e in (w.0, w.2, is w.0 w.1));
     only = λ f other written. (let w = E.accepted_only entry s left v mode e f other written in (is f (sym w.0), w.1));
@@ -64,7 +64,7 @@ module _ {F O X : Type 0} {g : Goal} {whole : F → Demands} {stopping : O → D
   -- an error, of the reading program or if memory ran out
   pub reads_fails : (e : ParseError) → is_memory_cause (refusal_of e).cause ≡ is_for_memory e → IsNew s
       → R.Fails (result_of g s) e left
-      → ReadsWhole whole stopping Is s.library left.library s.cursor left.cursor (Err e)
+      → ReadsWhole g Is s.library left.library s.cursor left.cursor (Err e)
   reads_fails e same mode fails = record {
     accepted = tt;
     only = λ f other written. by_memory (is_for_memory e)

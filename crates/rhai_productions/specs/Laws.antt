@@ -103,7 +103,7 @@ abbrev pub IsPromised : Goal → Type 0
 IsPromised g =
     (s left : Progress) (result : Result (Val g) ParseError) → s.cursor.mode ≡ code → s.captured ≡ []
     → Gives (λ x. x) (result_of g s) result left
-    → ReadsWhole (written g) (unwritten g) (λ f x. tree_of g f ≡ x) s.library left.library s.cursor left.cursor result
+    → ReadsWhole g (λ f x. tree_of g f ≡ x) s.library left.library s.cursor left.cursor result
 
 -- So it is for whole expressions and for scripts.
 pub record EntriesArePromised : Type 0 where

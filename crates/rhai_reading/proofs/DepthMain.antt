@@ -9,8 +9,8 @@ use Rattle.rhai_reading.specs.Reading.{Goal, Script, Val, Whole, body}
 use Rattle.rhai_reading.specs.Running.{Done, Progress, entering, nested, result_of}
 use Rattle.rhai_reading.proofs.Complete.{complete, complete_script}
 use Rattle.rhai_reading.proofs.Dives.{Above, Dives, High, above_less, dives_result, goes_above, left_high}
+use Rattle.rhai_reading.proofs.Entries.{IsNew, begun, begun_at, from}
 use Rattle.rhai_reading.proofs.Grows.{Goes, entered_goes}
-use Rattle.rhai_reading.proofs.Main.{IsNew, begun, begun_at, from}
 use Rattle.rhai_reading.proofs.Rules.{at}
 
 -- The peak is at least so many readers above those that were active before, or it is the greatest number that there is.

@@ -15,16 +15,16 @@ use Rattle.rhai_lower.specs.Streams.{Stream, stream_of}
 use Rattle.rhai_lower.specs.Texts.{Text}
 use Rattle.rhai_grammar.specs.Contexts.{Context, Live, nothing_live}
 use Rattle.rhai_grammar.specs.Cursors.{Cursor, cursor_of}
-use Rattle.rhai_grammar.specs.Demands.{Demands}
 use Rattle.rhai_grammar.specs.Libraries.{Library}
 use Rattle.rhai_grammar.specs.NumberedLibraries.{IsOrderly}
 use Rattle.rhai_grammar.specs.Causes.{no_memory}
-use Rattle.rhai_grammar.specs.Promises.{HasRead, ReadsWhole, UnlessMemory, expressions, scripts}
-use Rattle.rhai_grammar.specs.Trees.{statement_trees, tree}
+use Rattle.rhai_grammar.specs.Promises.{HasRead, UnlessMemory}
 use Rattle.rhai_grammar.specs.declared.error.ParseError.{ParseError}
 use Rattle.rhai_grammar.specs.declared.filter.ExprFilter.{ExprFilter}
 use Rattle.rhai_grammar.specs.declared.filter.ExprFilter.TheVariants.{All}
 use Rattle.rhai_grammar.proofs.OrderLemmas.{libraries_stay_orderly}
+use Rattle.rhai_reading.specs.Reading.{Goal, Script, Whole}
+use Rattle.rhai_productions.specs.Promised.{ReadsWhole, Written}
 use Rattle.rhai_base.specs.Counts.{counts_of, none_yet}
 use Rattle.rhai_base.specs.Frames.{known_variables}
 use Rattle.rhai_base.specs.Libraries.{library_of}
@@ -116,44 +116,44 @@ stays_orderly engine state stream constants after n keeps =
     let l = subst (λ es. KeepsOrder engine none_yet (library_of es) after) n.lib k in
     l (libraries_stay_orderly.empty engine.max_functions)
 
--- What forms demand, and what the answer is, by what they stand in, the functions after it, the constants and what is
--- live before.
-module _ {F X : Type 0} (whole : Context → Live → F → Demands) (Is : Library → Constants → Live → F → X → Type 0)
-    (stand : (context : Context) (live : Live) → StandWhereNamed (whole context live)) where
+-- What is read, and what the answer is, by what a form stands in, the functions after it, and the constants.
+module _ {X : Type 0} (goal : Context → Live → Goal)
+    (Is : Library → Constants → (context : Context) (live : Live) → Written (goal context live) → X → Type 0)
+    (stand : (context : Context) (live : Live) → StandWhereNamed (goal context live)) where
   pub text_parsed : (engine : EngineValue) (chosen settings : ParseSettings) (state : StateValue)
       (constants : Constants)
       (limits : Limits) (text : Text) (result : Result X ParseError) (tokens : T.Tokens) (after : Library)
       (left : Cursor)
       → Reads text limits tokens → chosen ≡ settings
       → IsNew state (stream_of (map ask_of tokens.entries.items) tokens.end) [] constants
-      → ReadsWhole (whole (starts_in engine state chosen) (live_in state)) (Is after state.external_constants
-      (live_in state))
+      → ReadsWhole (goal (starts_in engine state chosen) (live_in state)) (Is after state.external_constants
+      (starts_in engine state chosen) (live_in state))
       (library_of state.lib.now.entries) after (cursor_of state.input.now) left result
       → UnlessMemory (HasRead (cursor_of state.input.now) left) result
-      → ReadsText (whole (text_context engine settings constants) nothing_live)
-      (Is after constants nothing_live) [] after limits text result
+      → ReadsText (goal (text_context engine settings constants) nothing_live)
+      (Is after constants (text_context engine settings constants) nothing_live) [] after limits text result
   text_parsed engine chosen settings state constants limits text result tokens after left r is n parsed memory =
       let stream = stream_of (map ask_of tokens.entries.items) tokens.end in
       let context = text_context engine settings constants in
-      let p = subst (λ s. ReadsWhole (whole (starts_in engine state s) (live_in state))
-      (Is after state.external_constants (live_in state)) (library_of state.lib.now.entries) after
+      let p = subst (λ s. ReadsWhole (goal (starts_in engine state s) (live_in state))
+      (Is after state.external_constants (starts_in engine state s) (live_in state)) (library_of state.lib.now.entries) after
       (cursor_of state.input.now) left result)
       is parsed in
-      let p0 = subst (λ k. ReadsWhole (whole (starts_in engine state settings) (live_in state)) (Is after k
-      (live_in state)) (library_of state.lib.now.entries) after (cursor_of state.input.now) left result)
+      let p0 = subst (λ k. ReadsWhole (goal (starts_in engine state settings) (live_in state)) (Is after k
+      (starts_in engine state settings) (live_in state)) (library_of state.lib.now.entries) after (cursor_of state.input.now) left result)
       n.constants p in
-      let p1 = subst (λ k. ReadsWhole (whole k (live_in state)) (Is after constants (live_in state))
+      let p1 = subst (λ k. ReadsWhole (goal k (live_in state)) (Is after constants k (live_in state))
       (library_of state.lib.now.entries) after (cursor_of state.input.now) left result)
       (context_is engine settings state stream [] constants n) p0 in
-      let p2 = subst (λ w. ReadsWhole (whole context w) (Is after constants w)
+      let p2 = subst (λ w. ReadsWhole (goal context w) (Is after constants context w)
       (library_of state.lib.now.entries) after (cursor_of state.input.now) left result)
       (live_is state stream [] constants n) p1 in
-      let p3 = subst (λ l. ReadsWhole (whole context nothing_live) (Is after constants nothing_live)
+      let p3 = subst (λ l. ReadsWhole (goal context nothing_live) (Is after constants context nothing_live)
       (library_of l) after (cursor_of state.input.now) left result) n.lib p2 in
-      let p4 = subst (λ s. ReadsWhole (whole context nothing_live) (Is after constants nothing_live) [] after
+      let p4 = subst (λ s. ReadsWhole (goal context nothing_live) (Is after constants context nothing_live) [] after
       (cursor_of s) left result) n.input p3 in
-      text_read (whole context nothing_live)
-      (Is after constants nothing_live) [] after limits text result tokens left (stand context nothing_live) r p4
+      text_read (goal context nothing_live)
+      (Is after constants context nothing_live) [] after limits text result tokens left (stand context nothing_live) r p4
       (subst (λ s. UnlessMemory (HasRead (cursor_of s) left) result) n.input memory)
 
 -- ---- the promises of the calls
@@ -161,17 +161,16 @@ module _ {F X : Type 0} (whole : Context → Live → F → Demands) (Is : Libra
 pub a_script : (makes : Makes) (engine : EngineValue) (constants : Constants) (level : OptimizationLevel)
     (limits : Limits)
     (text : Text) (result : Result AST ParseError) (after : Library)
-    → ReadsText (scripts (text_context engine (script_settings engine) constants) nothing_live)
-    (λ fs script. IsMadeOf makes constants level
-    (statement_trees fs nothing_live) after script) [] after limits text result
+    → ReadsText (Script (text_context engine (script_settings engine) constants) nothing_live)
+    (λ f script. IsMadeOf makes constants level f.0.0 after script) [] after limits text result
     → IsOrderly engine.max_functions 0 after → ReadsTextAsAst makes engine constants level limits text result
 a_script makes engine constants level limits text result after r o = record { after = after; reads = r; orderly = o }
 
 pub an_expression : (makes : Makes) (engine : EngineValue) (constants : Constants) (level : OptimizationLevel)
     (limits : Limits)
     (text : Text) (result : Result AST ParseError) (after : Library)
-    → ReadsText (expressions (text_context engine (expr_settings engine) constants) nothing_live)
-    (λ f script. IsScriptOf makes constants level (tree f nothing_live) after script) [] after limits text result
+    → ReadsText (Whole (text_context engine (expr_settings engine) constants) nothing_live)
+    (λ f script. IsScriptOf makes constants level f.0 after script) [] after limits text result
     → IsOrderly engine.max_functions 0 after → ReadsTextAsExpression makes engine constants level limits text result
 an_expression makes engine constants level limits text result after r o =
     record { after = after; reads = r; orderly = o }

@@ -17,9 +17,9 @@ ghost use Rattle.rhai_parser.specs.Heights.{Steady};
 
 use crate::engine::Engine;
 use crate::shared::Shared;
+use rhai_base::allowed::{may_be_closure, may_be_value};
 use rhai_base::leaves::statements::parse_var_name;
 use rhai_base::leaves::tokens::what_begins;
-use rhai_base::places::{may_be_closure, may_be_value};
 use rhai_base::{Frame, ParseSettings};
 use rhai_grammar::{Beginning, ExprFilter, ParseResult};
 use rhai_lower::{Expr, Position, Stmt, Token};
