@@ -1,8 +1,5 @@
 pub mod BoolLemmas
-pub mod MentionLemmas
 pub mod NameLemmas
+pub mod NotedLemmas
 pub mod ScriptLemmas
 pub mod SetLemmas
-pub mod WalkLemmas
-pub mod WalkLists
-pub mod WalkSteps

@@ -1,3 +1,3 @@
 pub mod FnNames
 pub mod Scripts
-pub mod Walks
+pub mod Noted

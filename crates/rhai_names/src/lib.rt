@@ -3,5 +3,5 @@
 #![tactic(auto)]
 
 pub mod names;
+mod noted;
 pub mod script;
-mod walk;

@@ -54,6 +54,7 @@ pub mod ShapesOfStatements
 pub mod Shapes
 pub mod WholeLemmas
 pub mod Fairness
+pub mod TreeMentions
 pub mod MentionLemmas
 pub mod MentionTrees
 pub mod MentionArms

@@ -11,8 +11,8 @@ use Rattle.rhai_grammar.specs.Prelude.{Collected, Node, Nodes, Properties, Refus
 use Rattle.rhai_grammar.specs.Prelude.{with_arm_collected, with_case, with_cases, with_default_collected, with_value}
 use Rattle.rhai_grammar.specs.Switches.{case_fault, fault_from, no_guard}
 use Rattle.rhai_productions.specs.Schema.{fault_free}
-use Rattle.rhai_productions.specs.Mentions.{Mention, all_mentions, arm_mentions, case_mentions, is_read, mentions}
-use Rattle.rhai_productions.specs.Mentions.{property_mentions}
+use Rattle.rhai_productions.specs.Mentions.{Mention, is_read}
+use Rattle.rhai_productions.proofs.TreeMentions.{all_mentions, arm_mentions, case_mentions, mentions, property_mentions}
 use Rattle.rhai_productions.proofs.MentionLemmas.{More, Only, Silent, call_reads, none_read, read_append}
 
 -- ---- literal values

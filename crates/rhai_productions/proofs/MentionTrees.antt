@@ -15,8 +15,8 @@ use Rattle.rhai_grammar.specs.declared.role.Joining.TheVariants as joins
 use Rattle.rhai_grammar.specs.declared.role.ListKind.{ListKind}
 use Rattle.rhai_grammar.specs.declared.role.ListKind.TheVariants as lists
 use Rattle.rhai_lower.specs.declared.token.Token.TheVariants as token
-use Rattle.rhai_productions.specs.Mentions.{Mention, Reads, all_mentions, block_mentions, is_read, mentions}
-use Rattle.rhai_productions.specs.Mentions.{property_mentions, statement_mentions, statements_mentions}
+use Rattle.rhai_productions.specs.Mentions.{Mention, Reads, is_read}
+use Rattle.rhai_productions.proofs.TreeMentions.{all_mentions, body_mentions, mentions, property_mentions, statement_mentions, statements_mentions}
 use Rattle.rhai_productions.proofs.MentionLemmas.{More, Only, Silent, appended, call_before, prepended, same}
 use Rattle.rhai_productions.proofs.NumberTrees.{ends_path}
 
@@ -68,7 +68,7 @@ pub one_statement : {us : List Text} (fs : node.Statements) (f : node.Statement)
     → More (statements_mentions fs) (statements_mentions (with_kept fs f)) us
 one_statement fs f h = same (kept fs f) (appended h)
 
-pub made : (f : node.Statement) → block_mentions (made_block f) ≡ statement_mentions f
+pub made : (f : node.Statement) → body_mentions (made_block f) ≡ statement_mentions f
 unfolding mentions
 made (node.noop at) = refl
 made (node.block_statement b) = refl

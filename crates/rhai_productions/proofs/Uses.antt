@@ -9,7 +9,8 @@ use Rattle.rhai_grammar.specs.declared.list.CommaList.TheVariants as lists
 use Rattle.rhai_reading.specs.Reading as R
 use Rattle.rhai_reading.specs.Reading.{Goal, Script, Val}
 use Rattle.rhai_productions.specs.Rules.{production}
-use Rattle.rhai_productions.specs.Mentions.{all_mentions, block_mentions, mentions, statements_mentions}
+use Rattle.rhai_productions.specs.Mentions.{is_read}
+use Rattle.rhai_productions.proofs.TreeMentions.{whole_block, all_mentions, body_mentions, mentions, statements_mentions}
 use Rattle.rhai_productions.specs.UseLaws.{AllReadTheirUses, FunctionsReadTheirUses}
 use Rattle.rhai_productions.specs.WrittenFunctions.{WrittenFunction, functions_in}
 use Rattle.rhai_productions.proofs.MentionArms.{faultless, literals}
@@ -91,7 +92,7 @@ table (R.Braced c w at) n = λ p m us u room b o vs h. after u h
 table (R.Guard c w) n = (λ e. tt, λ e x m us h fault. (λ a. tt, λ a. h))
 table (R.Iterated c w) n = (λ e. tt, λ e x m us h fault. h)
 table (R.Conditional c w at) n = λ x m us h b o vs k e q ts j.
-    same (sym (append_assoc (mentions x) (block_mentions b) (block_mentions e))) (both (both h k) j)
+    same (sym (append_assoc (mentions x) (body_mentions b) (body_mentions e))) (both (both h k) j)
 table (R.Branch c w at) n =
     (λ e p m. (λ is q o room f r us h. same (made f) h, λ is b o us h. h), λ e. none)
 table R.LoopNames n = (λ e at m is p o c q r j k s ok a b d f g i. none, λ e is at m c p o. none)
@@ -133,7 +134,7 @@ table (R.ClosureBody c w) n = (λ e at. none, λ e f m us h. h)
 
 all_read : (ws : List WrittenFunction) → U.AllGood Right Good ws → AllReadTheirUses ws
 all_read [] h = tt
-all_read (w ∷ ws) h = (λ name. h.0.is name, all_read ws h.1)
+all_read (w ∷ ws) h = (λ name. ap (is_read name) (whole_block w.ended.function.body) ∙ h.0.is name, all_read ws h.1)
 
 pub functions_read_their_uses : FunctionsReadTheirUses
 functions_read_their_uses = record {

@@ -36,8 +36,8 @@ use Rattle.rhai_productions.specs.Rules as P
 use Rattle.rhai_productions.specs.Rules.{production}
 use Rattle.rhai_productions.specs.Derived as F
 use Rattle.rhai_productions.specs.Events.{spelling_in}
-use Rattle.rhai_productions.specs.Mentions.{Mention, all_mentions, block_mentions, mentions, optional_mentions}
-use Rattle.rhai_productions.specs.Mentions.{property_mentions, statement_mentions, statements_mentions}
+use Rattle.rhai_productions.specs.Mentions.{Mention}
+use Rattle.rhai_productions.proofs.TreeMentions.{all_mentions, body_mentions, mentions, optional_mentions, property_mentions, statement_mentions, statements_mentions}
 use Rattle.rhai_productions.specs.WrittenFunctions.{free_name, is_called_by}
 use Rattle.rhai_productions.proofs.DerivedComplete.{or_other}
 use Rattle.rhai_productions.proofs.MentionArms.{collected_mentions}
@@ -83,14 +83,14 @@ Right (R.Export c w at) f l n us = Only (statement_mentions f.0) us
 Right (R.Statement c w) f l n us = Only (statement_mentions f.0) us
 Right (R.Statements closing c w before) fs l n us = More (statements_mentions before) (statements_mentions fs.0) us
 Right (R.Inside c w) fs l n us = Only (statements_mentions fs) us
-Right (R.Block c w at) b l n us = Only (block_mentions b) us
-Right (R.BlockEnd at fs) b l n us = More (statements_mentions fs) (block_mentions b) us
+Right (R.Block c w at) b l n us = Only (body_mentions b) us
+Right (R.BlockEnd at fs) b l n us = More (statements_mentions fs) (body_mentions b) us
 Right (R.Construct c w at kind) f l n us = Only (statement_mentions f) us
-Right (R.Braced c w at) b l n us = Only (block_mentions b) us
+Right (R.Braced c w at) b l n us = Only (body_mentions b) us
 Right (R.Guard c w) x l n us = Only (mentions x) us
 Right (R.Iterated c w) x l n us = Only (mentions x) us
 Right (R.Conditional c w at) f l n us = Only (statement_mentions f) us
-Right (R.Branch c w at) b l n us = Only (block_mentions b) us
+Right (R.Branch c w at) b l n us = Only (body_mentions b) us
 Right (R.Arms c w before) x l n us = More (collected_mentions before) (collected_mentions x) us
 Right (R.Arm c w before) a l n us =
     (are_literal_values a.0 ≡ true) × Only (mentions a.1 ++ mentions a.2) us
@@ -100,14 +100,14 @@ Right (R.Case c w) x l n us = Only (mentions x) us
 Right (R.CaseGuard c w) x l n us = Only (mentions x) us
 Right (R.Action c w) x l n us = Only (mentions x.0) us
 Right (R.FunctionStatement c w comments first at is_private) f l n us = Only (statement_mentions f.0) us
-Right (R.Function c comments at is_private) x l n us = Only (block_mentions x.function.body) us
+Right (R.Function c comments at is_private) x l n us = Only (body_mentions x.function.body) us
 Right (R.Closure c w at by) x l n us = Only (mentions x) us
 Right (R.ClosureBody c w) f l n us = Only (statement_mentions f) us
 Right _ x l n us = Only [] us
 
 -- the body of a function reads these names
 abbrev pub Good : Ended → List Text → Type 0
-Good e us = Only (block_mentions e.function.body) us
+Good e us = Only (body_mentions e.function.body) us
 
 abbrev pub KeepsIn : (h : Goal) → (Val h → List Text → Type 0) → Production (Val h) → Lexeme → (own names : List Text)
     → Type 0

@@ -31,7 +31,8 @@ use Rattle.rhai_reading.specs.Reading as R
 use Rattle.rhai_reading.specs.Reading.{Goal, Val}
 use Rattle.rhai_productions.specs.Schema.{Production}
 use Rattle.rhai_productions.specs.Rules as P
-use Rattle.rhai_productions.specs.Mentions.{all_mentions, is_read, mentions, statement_mentions, statements_mentions}
+use Rattle.rhai_productions.specs.Mentions.{is_read}
+use Rattle.rhai_productions.proofs.TreeMentions.{all_mentions, mentions, statement_mentions, statements_mentions}
 use Rattle.rhai_productions.specs.WrittenFunctions.{free_name}
 use Rattle.rhai_productions.proofs.MentionArms.{arm, collected_mentions, default_arm}
 use Rattle.rhai_productions.proofs.MentionLemmas.{More, Only, after, among_append, both, none, on, prepended}

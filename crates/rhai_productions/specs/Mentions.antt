@@ -1,17 +1,14 @@
 -- What a tree mentions: variables by name, and calls. The calls are those that a function of a script may answer.
-use Rattle.std.specs.Prelude.{◌≡◌, ℕ, ◌==◌, ◌&&◌, ◌||◌, ◌++◌, Bool, true, false, Option, Some, None, List, []}
-use Rattle.std.specs.Prelude.{◌∷◌, if◌then◌else◌, codes, refl}
+use Rattle.std.specs.Prelude.{◌≡◌, ℕ, ◌==◌, ◌&&◌, ◌||◌, Bool, true, false, Option, Some, None, List, [], ◌∷◌}
+use Rattle.std.specs.Prelude.{if◌then◌else◌, codes, refl}
+use Rattle.std.specs.List.{flat_map}
 use Rattle.std.specs.Option.{is_some}
-use Rattle.rhai_lower.specs.Nodes.{Arms, Block, Called, Cases, Named, Node, Nodes, Optional, Properties, Statement}
-use Rattle.rhai_lower.specs.Nodes.{Statements, absent, array, assignment, block_statement, block_value, boolean, braces}
-use Rattle.rhai_lower.specs.Nodes.{break_loop, call, character, coalescing, conjunction, disjunction, do_statement, dot}
-use Rattle.rhai_lower.specs.Nodes.{export_statement, expression, for_statement, if_statement, import_statement, index}
-use Rattle.rhai_lower.specs.Nodes.{integer, interpolated, method_call, no_arms, no_cases, no_nodes, no_properties}
-use Rattle.rhai_lower.specs.Nodes.{no_statements, noop, object_map, one_arm, one_case, one_node, one_property}
-use Rattle.rhai_lower.specs.Nodes.{one_statement, pointer, present, property, return_statement, share, string}
-use Rattle.rhai_lower.specs.Nodes.{switch_statement, this, try_catch, unit, var_statement, variable, while_statement}
+use Rattle.rhai_lower.specs.Nodes.{Block, Called, Named, Node, Statement, assignment, braces, call, expression}
+use Rattle.rhai_lower.specs.Nodes.{method_call, no_nodes, no_statements, one_node, one_statement, try_catch, variable}
 use Rattle.rhai_lower.specs.Positions.{place}
 use Rattle.rhai_lower.specs.Texts.{Text, same_text}
+use Rattle.rhai_lower.specs.Walks.{Visit, Visited, block, inside_block, inside_node, inside_statement, node, nodes_walk}
+use Rattle.rhai_lower.specs.Walks.{statement, statements_walk, walk_of}
 use Rattle.rhai_grammar.specs.TreeNumbers.{has_path}
 
 pub data Mention : Type 0 where
@@ -30,76 +27,20 @@ by_count name (Some count) = Calls name count ∷ []
 abbrev pub by_call : Called → List Mention
 by_call c = if has_path c.path then [] else by_count c.name c.script_args
 
--- What a tree mentions, in the order of its parts. The variable of a `catch` is no mention where it is declared.
-unfoldable mutual
-  pub mentions : Node → List Mention
-  mentions (variable v at) = by_variable v
-  mentions (interpolated xs at) = all_mentions xs
-  mentions (array xs at) = all_mentions xs
-  mentions (object_map properties at) = property_mentions properties
-  mentions (call called arguments at) = by_call called ++ all_mentions arguments
-  mentions (method_call called arguments at) = by_call called ++ all_mentions arguments
-  mentions (dot left right flags at) = mentions left ++ mentions right
-  mentions (index left right flags at) = mentions left ++ mentions right
-  mentions (conjunction xs at) = all_mentions xs
-  mentions (disjunction xs at) = all_mentions xs
-  mentions (coalescing xs at) = all_mentions xs
-  mentions (block_value block) = block_mentions block
-  mentions (unit at) = []
-  mentions (boolean b at) = []
-  mentions (integer n at) = []
-  mentions (character c at) = []
-  mentions (string t at) = []
-  mentions (pointer name parameters at) = []
-  mentions (this at) = []
-  mentions (property name at) = []
+-- What one node of a walk mentions, apart from its parts. A variable that is declared is no mention.
+abbrev pub own_mentions : Visited → List Mention
+own_mentions (node (variable v at)) = by_variable v
+own_mentions (node (call called arguments at)) = by_call called
+own_mentions (node (method_call called arguments at)) = by_call called
+own_mentions _ = []
 
-  pub all_mentions : Nodes → List Mention
-  all_mentions no_nodes = []
-  all_mentions (one_node x xs) = mentions x ++ all_mentions xs
+-- what the nodes of a walk mention, in its order
+abbrev pub walk_mentions : List Visit → List Mention
+walk_mentions visits = flat_map (λ visit. own_mentions visit.1) visits
 
-  pub property_mentions : Properties → List Mention
-  property_mentions no_properties = []
-  property_mentions (one_property key at x rest) = mentions x ++ property_mentions rest
-
-  pub optional_mentions : Optional → List Mention
-  optional_mentions absent = []
-  optional_mentions (present x) = mentions x
-
-  pub statement_mentions : Statement → List Mention
-  statement_mentions (noop at) = []
-  statement_mentions (if_statement guard body branch at) =
-      mentions guard ++ (block_mentions body ++ block_mentions branch)
-  statement_mentions (switch_statement item arms cases ranges default at) =
-      mentions item ++ (arm_mentions arms ++ case_mentions cases)
-  statement_mentions (while_statement guard body at) = mentions guard ++ block_mentions body
-  statement_mentions (do_statement guard body negated at) = mentions guard ++ block_mentions body
-  statement_mentions (for_statement name counter over body at) = mentions over ++ block_mentions body
-  statement_mentions (var_statement name value place constant exported at) = mentions value
-  statement_mentions (assignment op target value at) = mentions target ++ mentions value
-  statement_mentions (expression x) = mentions x
-  statement_mentions (block_statement block) = block_mentions block
-  statement_mentions (try_catch body name handler at) = block_mentions body ++ block_mentions handler
-  statement_mentions (break_loop value breaks at) = optional_mentions value
-  statement_mentions (return_statement value throws at) = optional_mentions value
-  statement_mentions (import_statement source name at) = mentions source
-  statement_mentions (export_statement name alias at) = []
-  statement_mentions (share shared at) = []
-
-  pub statements_mentions : Statements → List Mention
-  statements_mentions no_statements = []
-  statements_mentions (one_statement f rest) = statement_mentions f ++ statements_mentions rest
-
-  pub block_mentions : Block → List Mention
-  block_mentions (braces fs start end) = statements_mentions fs
-
-  pub arm_mentions : Arms → List Mention
-  arm_mentions no_arms = []
-  arm_mentions (one_arm guard action arms) = mentions guard ++ (mentions action ++ arm_mentions arms)
-
-  pub case_mentions : Cases → List Mention
-  case_mentions no_cases = []
-  case_mentions (one_case value arms cases) = mentions value ++ case_mentions cases
+-- what a block mentions, with all that stands in it
+abbrev pub block_mentions : Block → List Mention
+block_mentions b = walk_mentions (walk_of 0 (block b))
 
 -- a variable of this name is among these
 abbrev pub is_read : Text → List Mention → Bool
@@ -147,10 +88,13 @@ example_try =
     braces (one_statement (expression (example_named (Some 1) (codes "e") 21)) no_statements) (place 1 19)
     (place 1 23)) (place 1 1)
 
-example : (statement_mentions example_assigned ≡ Reads (codes "y") ∷ Calls (codes "g") 1 ∷ Reads (codes "z") ∷ [])
-    × (statement_mentions example_try ≡ [])
-    × (is_read (codes "z") (statement_mentions example_assigned) ≡ true)
-    × (is_read (codes "x") (statement_mentions example_assigned) ≡ false)
-    × (is_called (codes "g") 1 (statement_mentions example_assigned) ≡ true)
-unfolding mentions all_mentions statement_mentions statements_mentions block_mentions
+abbrev example_mentions : Statement → List Mention
+example_mentions f = walk_mentions (walk_of 0 (statement f))
+
+example : (example_mentions example_assigned ≡ Reads (codes "y") ∷ Calls (codes "g") 1 ∷ Reads (codes "z") ∷ [])
+    × (example_mentions example_try ≡ [])
+    × (is_read (codes "z") (example_mentions example_assigned) ≡ true)
+    × (is_read (codes "x") (example_mentions example_assigned) ≡ false)
+    × (is_called (codes "g") 1 (example_mentions example_assigned) ≡ true)
+unfolding inside_node inside_statement inside_block nodes_walk statements_walk
 example = (refl, refl, refl, refl, refl)
