@@ -66,3 +66,5 @@ pub mod LinesOfSwitches
 pub mod LinesOfModules
 pub mod LinesOfFunctions
 pub mod LinesOfClosures
+pub mod Evaluation
+pub mod SumRowLemmas

@@ -42,3 +42,7 @@ pub mod LinesOfSwitches
 pub mod LinesOfModules
 pub mod LinesOfFunctions
 pub mod LinesOfClosures
+pub mod WorkedTokens
+pub mod WorkedForms
+pub mod WorkedOpenForms
+pub mod RowsOfSums

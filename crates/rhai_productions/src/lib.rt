@@ -4,3 +4,4 @@
 pub mod form_laws;
 pub mod laws;
 pub mod lines;
+pub mod rows;
