@@ -76,8 +76,8 @@ part (f ∷ fs) gs (x ∷ names) h =
     }
 
 -- what a script that fits says of the names of the functions after it
-by_form : (context : Context) (live : Live) (f : Written (Script context live)) (before after : Library) (start : Cursor)
-    → IsWrittenTo (promised.written (Script context live)) f before after start → (names : List FnNames)
+by_form : (context : Context) (live : Live) (f : Written (Script context live)) (before after : Library)
+    (start : Cursor) → IsWrittenTo (promised.written (Script context live)) f before after start → (names : List FnNames)
     → AreNamesOf (functions_in after) names
     → AreNamesAfter before (functions.functions_in production f.1) names
 by_form context live f before after start w names h =

@@ -16,7 +16,8 @@ use Rattle.rhai_grammar.specs.declared.role.ListKind.{ListKind}
 use Rattle.rhai_grammar.specs.declared.role.ListKind.TheVariants as lists
 use Rattle.rhai_lower.specs.declared.token.Token.TheVariants as token
 use Rattle.rhai_productions.specs.Mentions.{Mention, Reads, is_read}
-use Rattle.rhai_productions.proofs.TreeMentions.{all_mentions, body_mentions, mentions, property_mentions, statement_mentions, statements_mentions}
+use Rattle.rhai_productions.proofs.TreeMentions.{all_mentions, body_mentions, mentions, property_mentions}
+use Rattle.rhai_productions.proofs.TreeMentions.{statement_mentions, statements_mentions}
 use Rattle.rhai_productions.proofs.MentionLemmas.{More, Only, Silent, appended, call_before, prepended, same}
 use Rattle.rhai_productions.proofs.NumberTrees.{ends_path}
 

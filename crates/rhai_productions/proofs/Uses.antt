@@ -10,7 +10,8 @@ use Rattle.rhai_reading.specs.Reading as R
 use Rattle.rhai_reading.specs.Reading.{Goal, Script, Val}
 use Rattle.rhai_productions.specs.Rules.{production}
 use Rattle.rhai_productions.specs.Mentions.{is_read}
-use Rattle.rhai_productions.proofs.TreeMentions.{whole_block, all_mentions, body_mentions, mentions, statements_mentions}
+use Rattle.rhai_productions.proofs.TreeMentions.{all_mentions, body_mentions, mentions, statements_mentions}
+use Rattle.rhai_productions.proofs.TreeMentions.{whole_block}
 use Rattle.rhai_productions.specs.UseLaws.{AllReadTheirUses, FunctionsReadTheirUses}
 use Rattle.rhai_productions.specs.WrittenFunctions.{WrittenFunction, functions_in}
 use Rattle.rhai_productions.proofs.MentionArms.{faultless, literals}

@@ -37,7 +37,8 @@ use Rattle.rhai_productions.specs.Rules.{production}
 use Rattle.rhai_productions.specs.Derived as F
 use Rattle.rhai_productions.specs.Events.{spelling_in}
 use Rattle.rhai_productions.specs.Mentions.{Mention}
-use Rattle.rhai_productions.proofs.TreeMentions.{all_mentions, body_mentions, mentions, optional_mentions, property_mentions, statement_mentions, statements_mentions}
+use Rattle.rhai_productions.proofs.TreeMentions.{all_mentions, body_mentions, mentions, optional_mentions}
+use Rattle.rhai_productions.proofs.TreeMentions.{property_mentions, statement_mentions, statements_mentions}
 use Rattle.rhai_productions.specs.WrittenFunctions.{free_name, is_called_by}
 use Rattle.rhai_productions.proofs.DerivedComplete.{or_other}
 use Rattle.rhai_productions.proofs.MentionArms.{collected_mentions}

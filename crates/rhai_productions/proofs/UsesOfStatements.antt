@@ -76,8 +76,8 @@ statement c w start.Expression n = λ at room f m us h. h
 abbrev ListRight : node.Statements → node.Statements × Live → List Text → Type 0
 ListRight before fs us = More (statements_mentions before) (statements_mentions fs.0) us
 
-separated : (closing : Closing) (c : Context) (w v : Live) (before fs : node.Statements) (y : AfterStatement) (n : Lexeme)
-    (us : List Text) → More (statements_mentions before) (statements_mentions fs) us
+separated : (closing : Closing) (c : Context) (w v : Live) (before fs : node.Statements) (y : AfterStatement)
+    (n : Lexeme) (us : List Text) → More (statements_mentions before) (statements_mentions fs) us
     → KeepsIn (R.Statements closing c w before) (ListRight before) (P.separated closing c v fs y) n [] us
 separated closing c w v before fs ends.SemiColon n us h = λ at m gs o vs k. on h k
 separated closing c w v before fs ends.Close n us h = h
