@@ -1,12 +1,5 @@
 pub mod BoolLemmas
-pub mod MentionLemmas
 pub mod NameLemmas
 pub mod NotedLemmas
-pub mod OperandSteps
-pub mod Readings
 pub mod ScriptLemmas
 pub mod SetLemmas
-pub mod SwitchSteps
-pub mod TreeMentions
-pub mod TreeSteps
-pub mod UseLemmas

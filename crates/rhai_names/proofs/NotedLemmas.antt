@@ -19,11 +19,11 @@ use Rattle.rhai_lower.specs.declared.walk.Node.{Node}
 use Rattle.rhai_grammar.specs.Imports.{is_among}
 use Rattle.rhai_grammar.specs.TreeNumbers.{has_path}
 use Rattle.rhai_names.specs.FnNames.{counted, is_listed, texts}
-use Rattle.rhai_names.specs.Mentions.{Calls, Mention, Reads, by_call, by_count, by_variable, is_called, is_read, own_mentions, walk_mentions}
+use Rattle.rhai_productions.specs.Mentions.{Calls, Mention, Reads, by_call, by_count, by_variable, is_called, is_read, own_mentions, walk_mentions}
 use Rattle.rhai_names.specs.Noted.{AreNoted, Notes}
 use Rattle.rhai_names.specs.declared.noted.Noted.{Noted}
 use Rattle.rhai_names.proofs.BoolLemmas.{or-assoc, or-false}
-use Rattle.rhai_names.proofs.MentionLemmas.{called-append, read-append}
+use Rattle.rhai_productions.proofs.MentionLemmas.{called_append, read_append}
 use Rattle.rhai_names.proofs.SetLemmas.{call_cmp, counted_more, inserted, rc_cmp}
 
 -- ---- what a variable and a call mention
@@ -111,12 +111,12 @@ goes_on a b before now o given all h gives is n =
     let more = walk_mentions (all_left now) in record {
       reads = λ name.
           ap (λ r. r || is_read name more) (n.reads name) ∙ or-assoc (is_among name (texts a.read.keys)) (is_read name own) (is_read name more)
-          ∙ ap (λ r. is_among name (texts a.read.keys) || r) (sym (read-append name own more))
+          ∙ ap (λ r. is_among name (texts a.read.keys) || r) (sym (read_append name own more))
           ∙ ap (λ vs. is_among name (texts a.read.keys) || is_read name (walk_mentions vs)) (sym g.0) ∙ h.reads name;
       calls = λ name count.
           ap (λ r. r || is_called name count more) (n.calls name count)
           ∙ or-assoc (is_listed name count (counted a.called.keys)) (is_called name count own) (is_called name count more)
-          ∙ ap (λ r. is_listed name count (counted a.called.keys) || r) (sym (called-append name count own more))
+          ∙ ap (λ r. is_listed name count (counted a.called.keys) || r) (sym (called_append name count own more))
           ∙ ap (λ vs. is_listed name count (counted a.called.keys) || is_called name count (walk_mentions vs)) (sym g.0)
           ∙ h.calls name count;
     }

@@ -6,7 +6,7 @@ use Rattle.std.specs.declared.rc.RcStr.{RcStr}
 use Rattle.rhai_lower.specs.Texts.{Text}
 use Rattle.rhai_grammar.specs.Imports.{is_among}
 use Rattle.rhai_names.specs.FnNames.{counted, is_listed, texts}
-use Rattle.rhai_names.specs.Mentions.{Mention, is_called, is_read}
+use Rattle.rhai_productions.specs.Mentions.{Mention, is_called, is_read}
 use Rattle.rhai_names.specs.declared.noted.Noted.{Noted}
 
 -- After this step these mentions are noted as well.

@@ -4,7 +4,7 @@ ghost use Rattle.std.specs.Prelude.{IfOk, OnOk};
 ghost use Rattle.rhai_lower.specs.View.{block_view, called, named, view};
 ghost use Rattle.rhai_lower.specs.WalkState.{visited};
 ghost use Rattle.rhai_lower.specs.Walks.{node};
-ghost use Rattle.rhai_names.specs.Mentions.{block_mentions, by_call, by_variable, own_mentions};
+ghost use Rattle.rhai_productions.specs.Mentions.{block_mentions, by_call, by_variable, own_mentions};
 ghost use Rattle.rhai_names.specs.Noted.{AreNoted, Notes};
 
 use rhai_lower::{Expr, FnCallExpr, Node, StmtBlock, VariableExpr, Walk};

@@ -54,6 +54,14 @@ pub mod ShapesOfStatements
 pub mod Shapes
 pub mod WholeLemmas
 pub mod Fairness
+pub mod TreeMentions
+pub mod MentionLemmas
+pub mod MentionTrees
+pub mod MentionArms
+pub mod Using
+pub mod UsesOfOperands
+pub mod UsesOfStatements
+pub mod Uses
 pub mod LineLemmas
 pub mod LinesOfLists
 pub mod LinesOfOperands

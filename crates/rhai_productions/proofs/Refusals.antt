@@ -22,7 +22,7 @@ ended_on [] b = refl
 ended_on (Used free u ∷ a) b = ended_on a b
 ended_on (HasEnded x ∷ a) b = ap (λ xs. x ∷ xs) (ended_on a b)
 
-ended_only : (a : List Event) → ended_in (ends_only a) ≡ ended_in a
+pub ended_only : (a : List Event) → ended_in (ends_only a) ≡ ended_in a
 ended_only [] = refl
 ended_only (Used free u ∷ a) = ended_only a
 ended_only (HasEnded x ∷ a) = ap (λ xs. x ∷ xs) (ended_only a)

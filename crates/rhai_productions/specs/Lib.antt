@@ -18,6 +18,9 @@ pub mod ChainForms
 pub mod Runs
 pub mod Shaped
 pub mod StreamLaws
+pub mod Mentions
+pub mod WrittenFunctions
+pub mod UseLaws
 pub mod Lines
 pub mod LinesOfLists
 pub mod LinesOfOperands

@@ -15,6 +15,7 @@ ghost use Rattle.rhai_productions.specs.Shaped.{TreesKeepShape};
 ghost use Rattle.rhai_productions.specs.SlotLaws.{NoSlot, NumberedSlot, ScopesClose};
 ghost use Rattle.rhai_productions.specs.StartLaws.{StartsOfExpressions};
 ghost use Rattle.rhai_productions.specs.StreamLaws.{FormsAreFair, StreamsAreWhole};
+ghost use Rattle.rhai_productions.specs.UseLaws.{FunctionsReadTheirUses};
 ghost use Rattle.rhai_productions.specs.Watched.{NamesAreCaptured};
 
 /// A form that fits is spelled by the tokens that were taken, and leaves the functions that end in it and its free
@@ -151,4 +152,10 @@ pub fn forms_nest_within()
 #[tactic(auto, using(crate::proofs::ReaderHeights::readers_nest_within))]
 pub fn readers_nest_within()
     ensures { ReadersNestWithin }
+{}
+
+/// The body of a function or closure reads the names that it uses where no live slot has them, and no others.
+#[tactic(auto, using(crate::proofs::Uses::functions_read_their_uses))]
+pub fn functions_read_their_uses()
+    ensures { FunctionsReadTheirUses }
 {}

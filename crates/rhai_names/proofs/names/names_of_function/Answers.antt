@@ -5,7 +5,7 @@ use Rattle.std.specs.List.Sorted.{IsStrictlySortedBy}
 use Rattle.std.specs.Rc.{rc_str_bytes}
 use Rattle.rhai_lower.specs.View.{block_view}
 use Rattle.rhai_grammar.specs.Imports.{is_among}
-use Rattle.rhai_names.specs.Mentions.{block_mentions, is_read}
+use Rattle.rhai_productions.specs.Mentions.{block_mentions, is_read}
 use Rattle.rhai_names.specs.FnNames.{call_cmp, counted, is_listed, text_cmp, texts}
 use Rattle.rhai_names.proofs.NameLemmas.{calls_ascend, names_ascend}
 use Rattle.rhai_names.proofs.names.names_of_function.Goals as goal

@@ -3,7 +3,7 @@ use Rattle.std.proofs.Common.{length}
 use Rattle.rhai_lower.specs.View.{block_view}
 use Rattle.rhai_lower.specs.WalkState.{left}
 use Rattle.rhai_lower.specs.Walks.{all_left}
-use Rattle.rhai_names.specs.Mentions.{block_mentions}
+use Rattle.rhai_productions.specs.Mentions.{block_mentions}
 use Rattle.rhai_names.proofs.NotedLemmas.{Goes}
 use Rattle.rhai_names.proofs.noted.Noted.of_block.Given as goal
 

@@ -12,7 +12,7 @@ use Rattle.rhai_lower.specs.Nodes.{switch_statement, this, try_catch, unit, var_
 use Rattle.rhai_lower.specs.Walks as walk
 use Rattle.rhai_lower.specs.Walks.{Visit, deeper, inside_block, inside_node, inside_statement, ranges_walk, walk_of}
 use Rattle.rhai_lower.specs.declared.node.RangeCase.{RangeCase}
-use Rattle.rhai_names.specs.Mentions.{Mention, block_mentions, by_call, by_variable, own_mentions, walk_mentions}
+use Rattle.rhai_productions.specs.Mentions.{Mention, block_mentions, by_call, by_variable, own_mentions, walk_mentions}
 
 unfoldable mutual
   pub mentions : Node → List Mention
@@ -135,7 +135,8 @@ mutual
       on (at d x) _ (one d x) (on (body d b) (body d c) (block (deeper d) b) (block (deeper d) c))
   statement d (switch_statement x xs ys ranges default p) =
       on (at d x) _ (one d x) (on (walk.arms_walk d xs) _ (arms d xs)
-      (on (walk.cases_walk d ys) (ranges_walk d ranges) (cases d ys) (no_ranges d ranges) ∙ append-nil (case_mentions ys)))
+      (on (walk.cases_walk d ys) (ranges_walk d ranges) (cases d ys) (no_ranges d ranges)
+      ∙ append-nil (case_mentions ys)))
   statement d (while_statement x b p) = on (at d x) (body d b) (one d x) (block (deeper d) b)
   statement d (do_statement x b negated p) = on (at d x) (body d b) (one d x) (block (deeper d) b)
   statement d (for_statement name counter x b p) = on (at d x) (body d b) (one d x) (block (deeper d) b)
