@@ -16,4 +16,3 @@ pub mod FairDemands
 pub mod SwitchLemmas
 pub mod ShapeSteps
 pub mod NumberSteps
-pub mod NumberWays

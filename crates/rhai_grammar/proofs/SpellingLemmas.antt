@@ -8,7 +8,7 @@ use Rattle.rhai_lower.specs.Lexemes.{lexeme}
 use Rattle.rhai_lower.specs.Entries.{may_be_delivered, token_may_be_delivered, in_code as in_code_mode}
 use Rattle.rhai_lower.specs.declared.stream.Entry.{Entry}
 use Rattle.rhai_lower.specs.declared.token.Token.TheVariants as token
-use Rattle.rhai_grammar.specs.Spelling.{is_deliverable}
+use Rattle.rhai_grammar.specs.Delivered.{is_deliverable}
 use Rattle.rhai_grammar.specs.Laws.{EntriesAreDelivered}
 
 token_deliverable : (t : Token) → token_may_be_delivered t ≡ true → is_deliverable (lexeme t) ≡ true

@@ -1,16 +1,21 @@
 -- The tokens of a form that follows from productions, and what happens in it in written order. No clause is one of a
 -- production.
-use Rattle.std.specs.Prelude.{Bool, List, [], ◌∷◌, ◌++◌, map, if◌then◌else◌}
+use Rattle.std.specs.Prelude.{Bool, List, [], ◌∷◌, ◌++◌, map, if◌then◌else◌, ◌≡◌, ◌||◌, not}
 use Rattle.rhai_lower.specs.Lexemes.{Lexeme, Sign}
 use Rattle.rhai_lower.specs.declared.position.Position.{Position}
 use Rattle.rhai_grammar.specs.Delivered.{item, Mode, code, text, Taken}
-use Rattle.rhai_grammar.specs.Uses.{Use}
-use Rattle.rhai_grammar.specs.Libraries.{Ended, Library, with_ended}
+use Rattle.rhai_grammar.specs.Uses.{Use, with_use}
+use Rattle.rhai_grammar.specs.Libraries.{Ended, Library, with_ended, is_function}
 use Rattle.rhai_grammar.specs.Goals.{Goal, Val}
 use Rattle.rhai_grammar.specs.Productions.{Production}
 use Rattle.rhai_grammar.specs.Forms.{given, take, this, if_so, if_not, choose, here, must, knows, adds, uses, captures}
 use Rattle.rhai_grammar.specs.Forms.{part, literal, apart, in_text, form, Form, Filled, Open, Stopped, demands}
 use Rattle.rhai_grammar.specs.Forms.{demanded, stops, stopped}
+use Rattle.std.specs.List.{fold}
+use Rattle.std.specs.Option.{is_some}
+use Rattle.rhai_lower.specs.Texts.{Text}
+use Rattle.rhai_lower.specs.Slots.{SlotValue}
+use Rattle.rhai_grammar.specs.Slots.{number}
 use Rattle.rhai_lower.specs.declared.token.Token.TheVariants as token
 use Rattle.rhai_grammar.specs.Forms as F
 
@@ -122,3 +127,24 @@ module _ (rule : (g : Goal) → Production (Val g)) where
     stop_events_in (F.literal v f rest) = events f ++ stop_events_in rest
     stop_events_in (F.apart v us n f rest) = ends_only (events f) ++ stop_events_in rest
     stop_events_in (F.in_text closing l at f) = stop_events_in f
+
+-- After a refusal the functions are those before, and the first of those that end in the form.
+pub record HoldsFirst (before : Library) (ended : List Ended) (after : Library) : Type 0 where
+  pub done : List Ended
+  pub rest : List Ended
+  pub ended_is : ended ≡ done ++ rest
+  pub after_is : after ≡ before ++ done
+
+-- ---- what is captured
+
+-- no live slot has this name, nor a function that has ended
+abbrev pub is_free : List SlotValue → Library → Text → Bool
+is_free slots library name = not (is_some (number name slots) || is_function library name)
+
+-- uses with more of them; of each name the first use is kept
+abbrev pub with_uses : List Use → (more : List Use) → List Use
+with_uses uses more = fold with_use uses more
+
+-- of each name the first use
+abbrev pub first_uses : List Use → List Use
+first_uses uses = with_uses [] uses

@@ -5,9 +5,8 @@ use Rattle.rhai_lower.specs.Streams.{requests_of}
 use Rattle.rhai_lower.specs.declared.position.Position.{Position}
 use Rattle.rhai_lower.specs.declared.stream.Entry.{Entry}
 use Rattle.rhai_grammar.specs.Causes.{Refusal}
-use Rattle.rhai_grammar.specs.Delivered.{Mode, Point}
+use Rattle.rhai_grammar.specs.Delivered.{Mode, Point, IsDelivered}
 use Rattle.rhai_grammar.specs.Cursors.{delivered}
-use Rattle.rhai_grammar.specs.Spelling.{IsDelivered}
 use Rattle.rhai_grammar.specs.Demands.{Verdict, Wrong, Blames, Demands, Nothing, Tok, Ahead, Next, Test, Shape}
 use Rattle.rhai_grammar.specs.Demands.{◌▸◌, Adds, Apart, Captures, Literally, TestIn, Uses}
 use Rattle.rhai_grammar.specs.Demands.{verdict, Met, Missed}

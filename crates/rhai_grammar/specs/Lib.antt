@@ -27,7 +27,6 @@ pub mod Interpolations
 pub mod Trees
 pub mod Uses
 pub mod Closures
-pub mod UsesOfForms
 pub mod Demands
 pub mod Constructs
 pub mod Statements
@@ -36,19 +35,14 @@ pub mod Switches
 pub mod Starts
 pub mod Verdicts
 pub mod Spots
-pub mod Parts
-pub mod Spelling
 pub mod Shapes
 pub mod Laws
 pub mod Rows
 pub mod RowsOfEntries
-pub mod StartLaws
-pub mod ClosureLaws
 pub mod SlotLaws
 pub mod TreeNumbers
 pub mod NumberedLibraries
 pub mod LibraryLaws
-pub mod PositionLaws
 pub mod Imports
 pub mod Prelude
 pub mod Goals

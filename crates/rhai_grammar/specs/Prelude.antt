@@ -81,9 +81,7 @@ pub use Rattle.rhai_grammar.specs.Trees.{member_link, method_tree, name_tree}
 pub use Rattle.rhai_grammar.specs.Trees.{node_count}
 pub use Rattle.rhai_grammar.specs.Trees.{variable_of, with_kept}
 pub use Rattle.rhai_grammar.specs.Uses.{Use, names_of, noted}
-pub use Rattle.rhai_grammar.specs.UsesOfForms.{Event, HasEnded, HoldsFirst, Used, as_called, ended_in}
-pub use Rattle.rhai_grammar.specs.UsesOfForms.{is_free}
-pub use Rattle.rhai_grammar.specs.UsesOfForms.{used_at}
+pub use Rattle.rhai_grammar.specs.Events.{HoldsFirst, is_free}
 pub use Rattle.rhai_grammar.specs.Verdicts.{operator_known, raise_due, run_ends}
 pub use Rattle.rhai_lower.specs.Lexemes.{Faulty, Integer, Interpolated, Lexeme, Name, Reserved, Sign, String, text_of}
 pub use Rattle.rhai_lower.specs.Names.{is_identifier}

@@ -1,4 +1,4 @@
--- Forms and trees without positions: each token and each node gets the position `nowhere`.
+-- Trees without positions: each node gets the position `nowhere`.
 use Rattle.std.specs.Prelude.{ℕ, Option, List, [], ◌∷◌}
 use Rattle.rhai_lower.specs.Texts.{Text}
 use Rattle.rhai_lower.specs.Positions.{nowhere}

@@ -1,4 +1,4 @@
--- The tree of a written form.
+-- Nodes that productions give: names, calls, links and definitions.
 use Rattle.std.specs.Prelude.{ℕ, ◌+◌, Bool, true, false, Option, Some, None, List, []}
 use Rattle.std.specs.Prelude.{unwrap_or}
 use Rattle.std.specs.Prelude.{if◌then◌else◌}
@@ -6,14 +6,14 @@ use Rattle.rhai_lower.specs.Texts.{Text}
 use Rattle.rhai_lower.specs.Positions.{nowhere}
 use Rattle.rhai_lower.specs.Slots.{SlotValue}
 use Rattle.rhai_lower.specs.Lexemes.{Lexeme}
-use Rattle.rhai_lower.specs.Nodes.{Called, Named, Node, Nodes, this, unit}
+use Rattle.rhai_lower.specs.Nodes.{Called, Named, Node, Nodes, unit}
 use Rattle.rhai_lower.specs.Nodes.{variable}
 use Rattle.rhai_lower.specs.Nodes.{call, method_call, no_nodes, one_node}
 use Rattle.rhai_lower.specs.Nodes.{position_of, noop}
-use Rattle.rhai_lower.specs.Nodes.{braces, no_statements, one_statement, var_statement}
+use Rattle.rhai_lower.specs.Nodes.{braces, no_statements, var_statement}
 use Rattle.rhai_lower.specs.Nodes as node
 use Rattle.rhai_lower.specs.declared.position.Position.{Position}
-use Rattle.rhai_grammar.specs.Beginnings.{is_this, is_negated}
+use Rattle.rhai_grammar.specs.Beginnings.{is_negated}
 use Rattle.rhai_grammar.specs.Chains.{Link, Bracket, Dotted}
 use Rattle.rhai_grammar.specs.Slots.{number}
 use Rattle.rhai_grammar.specs.Contexts.{Live}
@@ -28,10 +28,6 @@ variable_of slot name at = variable (record { number = slot; name = name; path =
 -- A name that is called, or part of a path, does not refer to a variable, and has no number.
 abbrev pub name_tree : List SlotValue → (called : Bool) → Text → Position → Node
 name_tree slots called name at = variable_of (if called then None else number name slots) name at
-
--- the node of a reserved word as an operand
-abbrev pub word_tree : Text → Position → Node
-word_tree word at = if is_this word then this at else variable_of None word at
 
 abbrev pub is_variable : Node → Bool
 is_variable (variable v p) = true
@@ -102,11 +98,6 @@ import_tree source name at = node.import_statement source (unwrap_or name []) at
 
 abbrev pub export_tree : Text → Option Text → Position → node.Statement
 export_tree name other at = node.export_statement name (unwrap_or other []) at
-
--- a statement before others; an empty one leaves no trace
-abbrev pub kept : node.Statement → node.Statements → node.Statements
-kept (noop at) rest = rest
-kept f rest = one_statement f rest
 
 -- statements with one more
 abbrev pub with_kept : node.Statements → node.Statement → node.Statements

@@ -1,41 +1,23 @@
 -- Which tokens are refused in place of a required one, and for which cause.
-use Rattle.std.specs.Prelude.{◌==◌, Bool, ◌&&◌}
+use Rattle.std.specs.Prelude.{◌==◌}
 use Rattle.std.specs.Prelude.{codes, if◌then◌else◌}
-use Rattle.rhai_lower.specs.Texts.{Text}
-use Rattle.rhai_lower.specs.Lexemes.{Lexeme, Reserved}
-use Rattle.rhai_lower.specs.Nodes.{Node, Properties}
+use Rattle.rhai_lower.specs.Lexemes.{Lexeme}
+use Rattle.rhai_lower.specs.Nodes.{Properties}
 use Rattle.rhai_lower.specs.declared.position.Position.{Position}
 use Rattle.rhai_grammar.specs.Causes as cause
 use Rattle.rhai_grammar.specs.Causes.{Cause, Refusal, refusal}
-use Rattle.rhai_grammar.specs.Settings.{Settings, is_in_function, quoted_keys}
+use Rattle.rhai_grammar.specs.Settings.{Settings, quoted_keys}
 use Rattle.rhai_grammar.specs.Contexts.{Context, may_raise}
-use Rattle.rhai_grammar.specs.Beginnings.{calling, calls, is_list, may_be_called, is_this}
+use Rattle.rhai_grammar.specs.Beginnings.{calling, is_list}
 use Rattle.rhai_grammar.specs.Beginnings.{MemberRole, AMember, NoMember, member_role}
 use Rattle.rhai_grammar.specs.Literals.{KeyRole, NoKey, key_role}
 use Rattle.rhai_grammar.specs.Literals.{property_count}
 use Rattle.rhai_grammar.specs.Strengths.{Follower, Operator, Unknown, Other, follower_of}
-use Rattle.rhai_grammar.specs.Trees.{is_variable}
 use Rattle.rhai_grammar.specs.declared.filter.ExprFilter.{ExprFilter}
-use Rattle.rhai_grammar.specs.Demands.{Verdict, Fine, Wrong, Blames, Otherwise}
+use Rattle.rhai_grammar.specs.Demands.{Verdict, Fine, Wrong, Otherwise}
 
 abbrev pub anything : Lexeme → Verdict
 anything token = Otherwise
-
--- After a reserved word: what calls it, if it may be called. In a function `this` may be followed by anything.
-abbrev pub word_use : Context → Text → Position → (called : Bool) → Verdict
-word_use context word at called =
-    if may_be_called word && called then Fine else
-    if is_this word then
-    (if is_in_function context.settings then Fine else
-    Blames (refusal (cause.BadInput (cause.ImproperSymbol word)) at)) else
-    Blames (refusal (cause.Reserved word) at)
-
-abbrev pub after_word : Context → Text → Position → Lexeme → Verdict
-after_word context word at token = word_use context word at (calls token)
-
--- after an operand that is not called: nothing that calls a variable
-abbrev pub uncalled : Node → Lexeme → Verdict
-uncalled x token = if is_variable x && calls token then Otherwise else Fine
 
 -- after a dot
 abbrev pub member_at : MemberRole → Verdict

@@ -13,7 +13,7 @@ use Rattle.rhai_grammar.specs.Prelude.{Tokens, linking, follower_of, Other, spot
 use Rattle.rhai_grammar.specs.Prelude.{Nothing}
 use Rattle.rhai_grammar.specs.Delivered as M
 use Rattle.rhai_grammar.specs.Signs.{sign_holds, signed as signed_tree}
-use Rattle.rhai_grammar.specs.StartLaws.{is_added}
+use Rattle.rhai_productions.specs.StartLaws.{is_added, IsBegun}
 use Rattle.rhai_grammar.specs.declared.filter.ExprFilter.{ExprFilter}
 use Rattle.rhai_grammar.specs.declared.role.Beginning.{Beginning}
 use Rattle.rhai_grammar.specs.declared.role.Beginning.TheVariants as begin
@@ -24,7 +24,6 @@ use Rattle.rhai_reading.specs.Reading as R
 use Rattle.rhai_grammar.specs.Rules as P
 use Rattle.rhai_grammar.specs.Rules.{production}
 use Rattle.rhai_grammar.specs.Productions.{fault_free}
-use Rattle.rhai_productions.specs.StartLaws.{IsBegun}
 use Rattle.rhai_productions.proofs.Fits as F
 use Rattle.rhai_productions.proofs.Fits.{Comes, Fit, FitIn, formed, given}
 

@@ -9,7 +9,7 @@ use Rattle.rhai_grammar.specs.Prelude.{Context, Live, Text, Point, code, past, T
 use Rattle.rhai_grammar.specs.Prelude.{beginning, value_of, level_up, may_raise}
 use Rattle.rhai_grammar.specs.Prelude.{may_be_closure, may_begin}
 use Rattle.rhai_grammar.specs.Prelude.{has_single_blocks, may_be_value, made_block, starts}
-use Rattle.rhai_grammar.specs.StartLaws.{is_added}
+use Rattle.rhai_productions.specs.StartLaws.{is_added, StartsOfExpressions}
 use Rattle.rhai_grammar.specs.declared.role.Beginning.TheVariants as begin
 use Rattle.rhai_grammar.specs.declared.role.Construct.{Construct as Kind}
 use Rattle.rhai_grammar.specs.declared.role.Construct.TheVariants as kind
@@ -18,7 +18,6 @@ use Rattle.rhai_grammar.specs.Prelude.{loop_body}
 use Rattle.rhai_reading.specs.Reading as R
 use Rattle.rhai_grammar.specs.Rules as P
 use Rattle.rhai_grammar.specs.Rules.{production}
-use Rattle.rhai_productions.specs.StartLaws.{StartsOfExpressions}
 use Rattle.rhai_productions.proofs.StartLemmas.{begins_so}
 use Rattle.rhai_productions.proofs.Fits as F
 use Rattle.rhai_productions.proofs.Fits.{Comes, Fit, FitIn, formed, given}

@@ -13,12 +13,11 @@ use Rattle.rhai_reading.specs.Reading.{Goal, Val}
 use Rattle.rhai_grammar.specs.Rules.{production}
 use Rattle.rhai_grammar.specs.Prelude.{Taken, Cursor, Point, Mode, latest_first}
 use Rattle.rhai_grammar.specs.Cursors.{next_item}
-use Rattle.rhai_grammar.specs.PositionLaws.{StandsAmong, StandsAtToken}
+use Rattle.rhai_productions.specs.PositionLaws.{StandsAmong, StandsAtToken, RefusalsStandAtTokens, StandAtTokens}
 use Rattle.rhai_grammar.proofs.PositionSteps.{AllTaken, Ends}
 use Rattle.rhai_grammar.proofs.PositionTrees as T
 use Rattle.rhai_grammar.proofs.PositionTrees.{AllLinks, AllPlaced, Placed}
 use Rattle.rhai_productions.proofs.Standing.{refused}
-use Rattle.rhai_productions.specs.PositionLaws.{RefusalsStandAtTokens, StandAtTokens}
 use Rattle.rhai_productions.proofs.PositionsOfOperands.{AllowsAs, Wants, Right, by_either, either_of, parted, fault_at}
 use Rattle.rhai_productions.proofs.PositionsOfOperands.{one_more, longer, operand, right, primary, called, call_of, links}
 use Rattle.rhai_productions.proofs.PositionsOfOperands.{element, key, field, follower, binary}

@@ -5,14 +5,13 @@ use Rattle.std.specs.Prelude.{◌⊎◌}
 use Rattle.rhai_grammar.specs.Prelude.{Mode, code, text, Taken, Point, Use, Ended, Library, Refusal, Demands, Nothing}
 use Rattle.rhai_grammar.specs.Prelude.{Missed, with_ended, past, next_at, adding, capturing, with_captured}
 use Rattle.rhai_grammar.specs.Delivered as M
-use Rattle.rhai_grammar.specs.UsesOfForms.{HoldsFirst}
+use Rattle.rhai_grammar.specs.Events.{HoldsFirst, Event, Used, HasEnded, ended_in, ends_only}
 use Rattle.rhai_reading.specs.Reading.{Goal, Val}
 use Rattle.rhai_grammar.specs.Productions.{Production}
 use Rattle.rhai_grammar.specs.Forms as F
 use Rattle.rhai_grammar.specs.Forms.{given, take, this, if_so, if_not, choose, here, must, knows, adds, uses}
 use Rattle.rhai_grammar.specs.Forms.{captures, part, literal, apart, in_text, form}
 use Rattle.rhai_grammar.specs.Events as D
-use Rattle.rhai_grammar.specs.Events.{Event, Used, HasEnded, ended_in, ends_only}
 use Rattle.rhai_productions.specs.EventLaws as law
 use Rattle.rhai_productions.proofs.Passing.{leaves_its, library_after, library_on, library_ends, library_is, passes}
 use Rattle.rhai_productions.proofs.Passing.{Passed}

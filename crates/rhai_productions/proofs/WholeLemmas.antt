@@ -6,8 +6,7 @@ use Rattle.rhai_lower.specs.Nodes as node
 use Rattle.rhai_grammar.specs.Prelude.{Lexeme, Sign, Context, Live, Point, Met, Nothing, Ended, Taken, Tokens, later}
 use Rattle.rhai_grammar.specs.Prelude.{leads, is_end, ends_itself, with_kept, Mode, code, text, token_after_statement}
 use Rattle.rhai_grammar.specs.Statements.{statement_role}
-use Rattle.rhai_grammar.specs.Delivered.{Ends, Then, ask}
-use Rattle.rhai_grammar.specs.Spelling.{IsDelivered, is_deliverable}
+use Rattle.rhai_grammar.specs.Delivered.{Ends, Then, ask, IsDelivered, is_deliverable}
 use Rattle.rhai_grammar.specs.declared.role.AfterStatement.{AfterStatement}
 use Rattle.rhai_grammar.specs.declared.role.AfterStatement.TheVariants as ends
 use Rattle.rhai_grammar.specs.declared.role.StatementRole.{StatementRole}

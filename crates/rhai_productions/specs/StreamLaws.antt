@@ -2,9 +2,8 @@
 use Rattle.std.specs.Prelude.{◌≡◌}
 use Rattle.rhai_lower.specs.declared.position.Position.{Position}
 use Rattle.rhai_grammar.specs.Prelude.{Context, Live, Point, Met, Nothing}
-use Rattle.rhai_grammar.specs.Delivered.{Ends}
+use Rattle.rhai_grammar.specs.Delivered.{Ends, IsDelivered}
 use Rattle.rhai_grammar.specs.Laws.{AreFair}
-use Rattle.rhai_grammar.specs.Spelling.{IsDelivered}
 use Rattle.rhai_grammar.specs.Goals.{Goal, Val, Whole, Script}
 use Rattle.rhai_grammar.specs.Rules.{production}
 use Rattle.rhai_grammar.specs.Forms as D

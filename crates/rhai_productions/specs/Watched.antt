@@ -2,7 +2,7 @@
 use Rattle.std.specs.Prelude.{◌≡◌, ◌&&◌, not, ℕ, Bool, List}
 use Rattle.rhai_grammar.specs.Prelude.{Lexeme, Position, Use, Library, Context, Live, excludes_use}
 use Rattle.rhai_grammar.specs.Settings.{in_closure}
-use Rattle.rhai_grammar.specs.UsesOfForms.{is_free}
+use Rattle.rhai_grammar.specs.Events.{is_free}
 use Rattle.rhai_grammar.specs.declared.role.Bars.{Bars}
 use Rattle.rhai_grammar.specs.Goals.{Val, Primary, Closure}
 use Rattle.rhai_grammar.specs.Productions.{Production, Seen}

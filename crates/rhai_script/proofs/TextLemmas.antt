@@ -8,7 +8,7 @@ use Rattle.rhai_grammar.specs.Causes.{Refusal, is_for_memory, refusal_of}
 use Rattle.rhai_grammar.specs.Cursors.{Cursor, next_item, cursor_of}
 use Rattle.rhai_grammar.specs.Delivered.{Taken}
 use Rattle.rhai_grammar.specs.Libraries.{Library}
-use Rattle.rhai_grammar.specs.PositionLaws.{StandsAmong}
+use Rattle.rhai_productions.specs.PositionLaws.{StandsAmong}
 use Rattle.rhai_grammar.specs.Promises.{HasRead, IsNamed, UnlessMemory}
 use Rattle.rhai_grammar.specs.declared.error.ParseError.{ParseError}
 use Rattle.rhai_reading.specs.Reading.{Goal}
