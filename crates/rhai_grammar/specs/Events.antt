@@ -143,8 +143,8 @@ is_free slots library name = not (is_some (number name slots) || is_function lib
 
 -- uses with more of them; of each name the first use is kept
 abbrev pub with_uses : List Use → (more : List Use) → List Use
-with_uses uses more = fold with_use uses more
+with_uses us more = fold with_use us more
 
 -- of each name the first use
 abbrev pub first_uses : List Use → List Use
-first_uses uses = with_uses [] uses
+first_uses us = with_uses [] us
