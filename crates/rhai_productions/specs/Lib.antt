@@ -45,4 +45,6 @@ pub mod LinesOfClosures
 pub mod WorkedTokens
 pub mod WorkedForms
 pub mod WorkedOpenForms
+pub mod WorkedStatements
+pub mod WorkedFunctions
 pub mod RowsOfSums
