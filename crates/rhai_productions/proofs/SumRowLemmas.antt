@@ -1,6 +1,8 @@
 -- The worked rows of sums, ranges, calls and arrays, by evaluation.
 use Rattle.std.proofs.Common.{refl}
 use Rattle.rhai_grammar.specs.Prelude.{number, one_more}
+use Rattle.rhai_productions.specs.WorkedStatements as WS
+use Rattle.rhai_productions.specs.WorkedFunctions as WF
 use Rattle.rhai_productions.specs.RowsOfSums.{CallRow, EndedRow, FlatRow, LateRow, MinusRow, OpenRow, PairRow}
 use Rattle.rhai_productions.specs.RowsOfSums.{RangedRow, SizedRow, SumRow}
 use Rattle.rhai_productions.proofs.Evaluation.{fits, stops}

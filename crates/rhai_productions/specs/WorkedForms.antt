@@ -7,20 +7,21 @@ use Rattle.rhai_grammar.specs.Contexts.{nothing_live}
 use Rattle.rhai_grammar.specs.Delivered.{Mode, Point}
 use Rattle.rhai_grammar.specs.Demands.{Met, Missed}
 use Rattle.rhai_grammar.specs.Prelude.{Context, Integer, Link, LinkSpot, Live, Lexeme, Name, Node, Nodes, Position}
-use Rattle.rhai_grammar.specs.Prelude.{Refusal, Sign, Text, array, bracket_link, call_tree, chained, excludes_use}
-use Rattle.rhai_grammar.specs.Prelude.{in_block, level_up, member_link, name_tree, node_count, operand_start, operator_tree}
-use Rattle.rhai_grammar.specs.Prelude.{place, position_of, property, role_after, signed, spot_after_bracket, spot_after_dot}
+use Rattle.rhai_grammar.specs.Prelude.{Refusal, Sign, String, Text, array, below_global, block_value, bracket_link, call_tree, chained, excludes_use}
+use Rattle.rhai_grammar.specs.Prelude.{in_block, level_up, made_block, member_link, name_tree, node_count, operand_start, operator_tree}
+use Rattle.rhai_grammar.specs.Prelude.{place, position_of, property, qualified, role_after, signed, spot_after_bracket, spot_after_dot}
 use Rattle.rhai_grammar.specs.Prelude.{spot_after_operand, unit, with_node}
 use Rattle.rhai_grammar.specs.Literals.{item_role}
+use Rattle.rhai_grammar.specs.declared.filter.ExprFilter.{ExprFilter}
 use Rattle.rhai_grammar.specs.declared.role.Beginning.TheVariants as begin
 use Rattle.rhai_grammar.specs.declared.role.ItemRole.{ItemRole}
 use Rattle.rhai_grammar.specs.declared.role.ItemRole.TheVariants as item
 use Rattle.rhai_grammar.specs.declared.role.OperandRole.{OperandRole}
-use Rattle.rhai_grammar.specs.declared.role.OperandRole.TheVariants.{AfterRange, Elsewhere}
+use Rattle.rhai_grammar.specs.declared.role.OperandRole.TheVariants.{AfterCoalesce, AfterRange, Elsewhere}
 use Rattle.rhai_grammar.specs.declared.role.OperandStart.{OperandStart}
 use Rattle.rhai_grammar.specs.declared.role.OperandStart.TheVariants as first
 use Rattle.rhai_reading.specs.Goals as goal
-use Rattle.rhai_reading.specs.Reading.{Goal, Val, Whole, Expression, Operand, RightOperand, Primary, Links, Script}
+use Rattle.rhai_reading.specs.Reading.{Goal, Val, Whole, Expression, Operand, RightOperand, Primary, Links, Script, Statement}
 use Rattle.rhai_reading.specs.Reading.{NextOperator, BinaryOp, continues}
 use Rattle.rhai_productions.specs.Schema as S
 use Rattle.rhai_productions.specs.Schema.{Production}
@@ -71,7 +72,7 @@ fails p false e f = f
 -- ---- operands
 
 -- no further link
-abbrev pub unlinked : {w : Live} {spot : LinkSpot} {o : Option (ℕ × Bool)} → After o
+abbrev pub unlinked : {w : Live} {spot : LinkSpot} {filter : ExprFilter} {o : Option (ℕ × Bool)} → After filter o
     → Form production (Links w spot) spot.before
 unlinked {w} {spot} t = form (choose t.token (place 1 t.column) (t.no_link w spot))
 
@@ -81,11 +82,17 @@ abbrev pub linked : {c : Context} {w : Live} {x : Node} {ls : List Link} → For
     → Filled production (Operand c w) (P.operand_by c w begin.Value) (chained x ls)
 linked f links = part _ f (part _ (form (if_not (if_not given))) (part _ links (must given)))
 
-abbrev pub number : {c : Context} {w : Live} {o : Option (ℕ × Bool)} (n column : ℕ) → After o
+abbrev pub number : {c : Context} {w : Live} {o : Option (ℕ × Bool)} (n column : ℕ) → After c.filter o
     → Form production (Operand c w) (node.integer (pos n) (place 1 column))
 number n column t =
     form (choose (Integer (pos n)) (place 1 column) (linked (form (choose (Integer (pos n)) (place 1 column) (
     this (Integer (pos n)) (place 1 column) given))) (unlinked t)))
+
+abbrev pub quoted : {c : Context} {w : Live} {o : Option (ℕ × Bool)} (text : Text) (column : ℕ) → After c.filter o
+    → Form production (Operand c w) (node.string text (place 1 column))
+quoted text column t =
+    form (choose (String text) (place 1 column) (linked (form (choose (String text) (place 1 column) (
+    this (String text) (place 1 column) given))) (unlinked t)))
 
 -- a name that is no path, before this token
 abbrev pub name_before : {c : Context} {w : Live} (name : Text) (column : ℕ) (l : Lexeme) (at : ℕ)
@@ -93,7 +100,7 @@ abbrev pub name_before : {c : Context} {w : Live} (name : Text) (column : ℕ) (
 name_before name column l at =
     form (choose (Name name) (place 1 column) (this (Name name) (place 1 column) (uses l (place 1 at) given)))
 
-abbrev pub named : {c : Context} {w : Live} {o : Option (ℕ × Bool)} (name : Text) (column : ℕ) (t : After o)
+abbrev pub named : {c : Context} {w : Live} {o : Option (ℕ × Bool)} (name : Text) (column : ℕ) (t : After c.filter o)
     → Form production (Operand c w) (name_tree w.slots (excludes_use t.token) name (place 1 column))
 named name column t =
     form (choose (Name name) (place 1 column) (linked (name_before name column t.token t.column) (unlinked t)))
@@ -113,7 +120,7 @@ minus column f =
     part _ f (must given)))))
 
 -- the omitted zero before `..`
-abbrev pub zero_before : {c : Context} {w : Live} (column : ℕ) → After (Some (140, false))
+abbrev pub zero_before : {c : Context} {w : Live} (column : ℕ) → After c.filter (Some (140, false))
     → Form production (Operand c w) (node.integer (pos 0) (place 1 column))
 zero_before column t =
     form (choose (Sign token.ExclusiveRange) (place 1 column) (linked (form (
@@ -132,15 +139,15 @@ group opening f closing links =
 -- ---- runs
 
 -- no operator follows
-abbrev pub ends : {c : Context} {w : Live} {at : Position} {parent : ℕ} {x : Node} → After None
+abbrev pub ends : {c : Context} {w : Live} {at : Position} {parent : ℕ} {x : Node} → After c.filter None
     → Form production (BinaryOp c w at parent x) x
-ends {c} t = form (part None (form (choose t.token (place 1 t.column) (t.operator c.filter))) given)
+ends t = form (part None (form (choose t.token (place 1 t.column) t.operator)) given)
 
 -- an operator follows that binds too weakly to go on with this run
 abbrev pub leaves : {c : Context} {w : Live} {at : Position} {parent : ℕ} {x : Node} {op : ℕ × Bool}
-    (t : After (Some op)) → IsTrue (not (continues parent op.0 op.1)) → Form production (BinaryOp c w at parent x) x
-leaves {c} {parent = parent} {op = op} t so =
-    form (part _ (form (choose t.token (place 1 t.column) (t.operator c.filter))) (
+    (t : After c.filter (Some op)) → IsTrue (not (continues parent op.0 op.1)) → Form production (BinaryOp c w at parent x) x
+leaves {parent = parent} {op = op} t so =
+    form (part _ (form (choose t.token (place 1 t.column) t.operator)) (
     fails _ (continues parent op.0 op.1) so given))
 
 -- the first token of an operand, and of an expression
@@ -158,14 +165,14 @@ next_of (form (part next f rest)) = (next, f)
 
 -- An operator goes on with a run: its right operand, what groups more tightly with that, and the rest of the run.
 abbrev pub joins : {c : Context} {w : Live} {at : Position} {parent : ℕ} {x y z r : Node} {op : ℕ × Bool}
-    (t : After (Some op)) → IsTrue (continues parent op.0 op.1)
+    (t : After c.filter (Some op)) → IsTrue (continues parent op.0 op.1)
     → Form production (RightOperand c w (role_after t.token)) y
     → Form production (BinaryOp (level_up c) w (position_of y) op.0 y) r
     → Form production (BinaryOp (level_up c) w (place 1 t.column) parent
     (operator_tree t.token (place 1 t.column) x r)) z
     → Form production (BinaryOp c w at parent x) z
-joins {c} {parent = parent} {op = op} t so y r z =
-    form (part _ (form (choose t.token (place 1 t.column) (t.operator c.filter))) (
+joins {parent = parent} {op = op} t so y r z =
+    form (part _ (form (choose t.token (place 1 t.column) t.operator)) (
     holds _ (continues parent op.0 op.1) so (this t.token (place 1 t.column) (
     part _ y (part _ (next_of r).1 (must (part _ r (must (must (part _ z given))))))))))
 
@@ -191,6 +198,30 @@ abbrev pub right_of_range : {c : Context} {w : Live} {x : Node} (f : Form produc
 right_of_range f so =
     form (choose (front f).0 (front f).1 (operand_there (operand_start AfterRange (front f).0) so (part _ f given)))
 
+abbrev pub IsJump : OperandStart → Type 0
+IsJump first.Jump = Unit {0}
+IsJump _ = ⊥
+
+abbrev jump_there : {c : Context} {w : Live} {place : OperandRole} {x : Node} (start : OperandStart) → IsJump start
+    → Filled production (RightOperand c w place) (P.right_by c w first.Jump) x
+    → Filled production (RightOperand c w place) (P.right_by c w start) x
+jump_there first.Jump so f = f
+jump_there first.Omitted so f = absurd so
+jump_there first.Written so f = absurd so
+
+-- the first token of a statement
+abbrev pub begun : {c : Context} {w : Live} {f : node.Statement × Live} → Form production (Statement c w) f
+    → Lexeme × Position
+begun (form (choose l at f)) = (l, at)
+
+-- a jump on the right of `??`
+abbrev pub jump_right : {c : Context} {w : Live} {f : node.Statement × Live}
+    (s : Form production (Statement (below_global c) (in_block w)) f)
+    → IsJump (operand_start AfterCoalesce (begun s).0)
+    → Form production (RightOperand c w AfterCoalesce) (block_value (made_block f.0))
+jump_right s so =
+    form (choose (begun s).0 (begun s).1 (jump_there (operand_start AfterCoalesce (begun s).0) so (part _ s given)))
+
 -- the omitted unit of a range before a `]`
 abbrev pub unit_before : {c : Context} {w : Live} (closing : ℕ)
     → Form production (RightOperand c w AfterRange) (unit (place 1 closing))
@@ -204,12 +235,12 @@ abbrev pub run : {c : Context} {w : Live} {x y : Node} → Form production (Oper
 run f rest = form (here (front f).0 (front f).1 (must (part _ f (part _ rest given))))
 
 -- an operand alone, before a token
-abbrev pub alone : {c : Context} {w : Live} {x : Node} → (After None → Form production (Operand (level_up c) w) x)
-    → After None → Form production (Expression c w) x
+abbrev pub alone : {c : Context} {w : Live} {x : Node} → (After c.filter None → Form production (Operand (level_up c) w) x)
+    → After c.filter None → Form production (Expression c w) x
 alone f t = run (f t) (ends t)
 
 -- a name alone, before a token
-abbrev pub name_alone : {c : Context} {w : Live} (name : Text) (column : ℕ) (t : After None)
+abbrev pub name_alone : {c : Context} {w : Live} (name : Text) (column : ℕ) (t : After c.filter None)
     → Form production (Expression c w) (name_tree w.slots (excludes_use t.token) name (place 1 column))
 name_alone name column t = run (named name column t) (ends t)
 
@@ -261,13 +292,24 @@ last_argument f closing =
 
 -- a name that is called with arguments in parentheses
 abbrev pub called : {c : Context} {w : Live} {o : Option (ℕ × Bool)} {ns : Nodes} (name : Text) (column opening : ℕ)
-    → Form production (goal.Items (level_up c) w node.no_nodes) ns → After o
+    → Form production (goal.Items (level_up c) w node.no_nodes) ns → After c.filter o
     → Form production (Operand c w) (call_tree (name_tree w.slots true name (place 1 column)) false ns)
 called name column opening items t =
     form (choose (Name name) (place 1 column) (part _ (name_before name column (Sign token.LeftParen) opening) (
     part _ (form (if_not (if_so (part _ (form (choose (Sign token.LeftParen) (place 1 opening) (
     this (Sign token.LeftParen) (place 1 opening) (part _ (form (if_not (if_not (must (part _ items given))))) given)))) (
     must given))))) (part _ (unlinked t) (must given)))))
+
+-- a name after `::` that is called with `()`
+abbrev pub path_called : {c : Context} {w : Live} {o : Option (ℕ × Bool)} (root : Text) (column colons : ℕ)
+    (name : Text) (at pair : ℕ) → After c.filter o
+    → Form production (Operand c w) (call_tree (qualified w.imports (name_tree w.slots true root (place 1 column)) name
+    (place 1 at)) false node.no_nodes)
+path_called root column colons name at pair t =
+    form (choose (Name root) (place 1 column) (part _ (name_before root column (Sign token.DoubleColon) colons) (
+    part _ (form (if_so (part _ (form (this (Sign token.DoubleColon) (place 1 colons) (
+    take (Name name) (place 1 at) (if_not given)))) (if_so (part _ (form (choose (Sign token.Unit) (place 1 pair) (
+    this (Sign token.Unit) (place 1 pair) given))) (must given)))))) (part _ (unlinked t) (must given)))))
 
 abbrev pub IsItem : ItemRole → Type 0
 IsItem item.Item = Unit {0}
@@ -303,7 +345,7 @@ last_element {c} {before = before} f so closing =
 
 -- an array
 abbrev pub listed : {c : Context} {w : Live} {o : Option (ℕ × Bool)} {ns : Nodes} (opening : ℕ)
-    → Form production (goal.Elements (level_up c) w (place 1 opening) node.no_nodes) ns → After o
+    → Form production (goal.Elements (level_up c) w (place 1 opening) node.no_nodes) ns → After c.filter o
     → Form production (Operand c w) (array ns (place 1 opening))
 listed opening items t =
     form (choose (Sign token.LeftBracket) (place 1 opening) (linked (form (

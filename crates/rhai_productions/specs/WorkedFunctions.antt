@@ -1,6 +1,7 @@
 -- Parts of written forms that worked rows have in common: constructs, functions and closures. Each token is on the
 -- first line, at its column. Where a test of tokens or settings has to hold, `tt` says so: it is evaluated.
 use Rattle.std.specs.Prelude.{ℕ, Bool, true, false, not, Option, Some, None, List, [], ◌∷◌, ◌++◌, if◌then◌else◌}
+use Rattle.rhai_lower.specs.Lexemes as lexeme
 use Rattle.rhai_lower.specs.Nodes as node
 use Rattle.rhai_lower.specs.Nodes.{for_statement}
 use Rattle.rhai_lower.specs.declared.token.Token.TheVariants as token
@@ -147,6 +148,16 @@ abbrev pub declares : {c : Context} {w : Live} {f : node.Statement × Live} (at 
     → Form production (goal.FunctionStatement c w [] (place 1 at) (place 1 at) false) f
     → Form production (Statement c w) f
 declares at f = form (choose (Sign token.Fn) (place 1 at) (this (Sign token.Fn) (place 1 at) (part _ f given)))
+
+-- a doc comment, and the function after it
+abbrev pub documented : {c : Context} {w : Live} {f : node.Statement × Live} (text : Text) (column at : ℕ)
+    → Form production (goal.FunctionStatement c w (record { text = text; at = place 1 column } ∷ []) (place 1 at)
+    (place 1 at) false) f
+    → Form production (Statement c w) f
+documented text column at f =
+    form (choose (lexeme.Comment text) (place 1 column) (this (lexeme.Comment text) (place 1 column) (must (
+    part _ (form (if_not given)) (choose (Sign token.Fn) (place 1 at) (
+    this (Sign token.Fn) (place 1 at) (part _ f given)))))))
 
 -- ---- closures
 

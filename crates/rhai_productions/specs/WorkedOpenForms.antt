@@ -19,6 +19,11 @@ use Rattle.rhai_productions.specs.Rules.{production}
 use Rattle.rhai_productions.specs.WorkedForms.{IsItem, IsTrue, front, name_before, next_of, start}
 use Rattle.rhai_productions.specs.WorkedTokens.{After}
 
+-- a part that is open
+abbrev pub open_part : {h g : Goal} {k : Val g → Production (Val h)} → Stopped production g (production g)
+    → Stopped production h (S.part g k)
+open_part f = part_here (open_form f)
+
 -- ---- expressions
 
 -- a whole stream of which the expression is open
@@ -50,40 +55,40 @@ holds q false e f = absurd e
 
 -- an operator that goes on with a run, and what follows it
 abbrev pub open_after : {c : Context} {w : Live} {at : Position} {parent : ℕ} {x : Node} {op : ℕ × Bool}
-    (t : After (Some op)) → IsTrue (continues parent op.0 op.1)
+    (t : After c.filter (Some op)) → IsTrue (continues parent op.0 op.1)
     → Stopped production (BinaryOp c w at parent x) (P.binary_on c w at parent x op)
     → Open production (BinaryOp c w at parent x)
-open_after {c} {parent = parent} {op = op} t so rest =
-    open_form (part _ (form (choose t.token (place 1 t.column) (t.operator c.filter))) (
+open_after {parent = parent} {op = op} t so rest =
+    open_form (part _ (form (choose t.token (place 1 t.column) t.operator)) (
     holds _ (continues parent op.0 op.1) so rest))
 
 -- an operator whose right operand is open
 abbrev pub open_right : {c : Context} {w : Live} {at : Position} {parent : ℕ} {x : Node} {op : ℕ × Bool}
-    (t : After (Some op)) → IsTrue (continues parent op.0 op.1)
+    (t : After c.filter (Some op)) → IsTrue (continues parent op.0 op.1)
     → Open production (RightOperand c w (role_after t.token)) → Open production (BinaryOp c w at parent x)
 open_right t so y = open_after t so (this t.token (place 1 t.column) (part_here y))
 
 -- an operator whose right operand, before this token, is too deep
 abbrev pub deep_right : {c : Context} {w : Live} {at : Position} {parent : ℕ} {x y : Node} {op : ℕ × Bool}
-    {next : Option (ℕ × Bool)} (t : After (Some op)) → IsTrue (continues parent op.0 op.1)
-    → Form production (RightOperand c w (role_after t.token)) y → After next
+    {next : Option (ℕ × Bool)} (t : After c.filter (Some op)) → IsTrue (continues parent op.0 op.1)
+    → Form production (RightOperand c w (role_after t.token)) y → After c.filter next
     → Open production (BinaryOp c w at parent x)
-deep_right {c} t so y u =
+deep_right t so y u =
     open_after t so (this t.token (place 1 t.column) (part _ y (
-    part _ (form (choose u.token (place 1 u.column) (u.operator c.filter))) must_here)))
+    part _ (form (choose u.token (place 1 u.column) u.operator)) must_here)))
 
 -- an operator after whose right operand, before this token, what groups more tightly is open
 abbrev pub open_tighter : {c : Context} {w : Live} {at : Position} {parent : ℕ} {x y : Node} {op : ℕ × Bool}
-    {next : Option (ℕ × Bool)} (t : After (Some op)) → IsTrue (continues parent op.0 op.1)
-    → Form production (RightOperand c w (role_after t.token)) y → After next
+    {next : Option (ℕ × Bool)} (t : After c.filter (Some op)) → IsTrue (continues parent op.0 op.1)
+    → Form production (RightOperand c w (role_after t.token)) y → After c.filter next
     → Open production (BinaryOp (level_up c) w (position_of y) op.0 y) → Open production (BinaryOp c w at parent x)
-open_tighter {c} t so y u r =
+open_tighter t so y u r =
     open_after t so (this t.token (place 1 t.column) (part _ y (
-    part _ (form (choose u.token (place 1 u.column) (u.operator c.filter))) (must (part_here r)))))
+    part _ (form (choose u.token (place 1 u.column) u.operator)) (must (part_here r)))))
 
 -- an operator with its right side, and the rest of the run, which is open
 abbrev pub open_rest : {c : Context} {w : Live} {at : Position} {parent : ℕ} {x y r : Node} {op : ℕ × Bool}
-    (t : After (Some op)) → IsTrue (continues parent op.0 op.1)
+    (t : After c.filter (Some op)) → IsTrue (continues parent op.0 op.1)
     → Form production (RightOperand c w (role_after t.token)) y
     → Form production (BinaryOp (level_up c) w (position_of y) op.0 y) r
     → Open production (BinaryOp (level_up c) w (place 1 t.column) parent

@@ -1,10 +1,10 @@
 -- Parts of written forms that worked rows have in common: statements, blocks and functions. Each token is on the first
 -- line, at its column. Where a test of tokens or settings has to hold, `tt` says so: it is evaluated.
-use Rattle.std.specs.Prelude.{ℕ, Bool, true, false, not, Option, Some, None, List, [], ◌∷◌, ◌++◌}
+use Rattle.std.specs.Prelude.{ℕ, Bool, true, false, not, Option, Some, None, List, [], if◌then◌else◌}
 use Rattle.rhai_lower.specs.Lexemes.{Comment, String}
 use Rattle.rhai_lower.specs.Nodes as node
 use Rattle.rhai_lower.specs.declared.token.Token.TheVariants as token
-use Rattle.rhai_grammar.specs.Prelude.{Context, Lexeme, Live, Name, Node, Position, Sign, Text, absent}
+use Rattle.rhai_grammar.specs.Prelude.{Context, Lexeme, Live, Name, Node, Position, Sign, Text, absent, allows_looping}
 use Rattle.rhai_grammar.specs.Prelude.{below_global, block_statement, braces, defined_as, definition_tree, ends_itself}
 use Rattle.rhai_grammar.specs.Prelude.{expression, has_single_blocks, import_tree, imported, in_block, in_function}
 use Rattle.rhai_grammar.specs.Prelude.{is_assignment, level_up, loop_body, loop_live, name_tree, nowhere, parameters_live}
@@ -26,14 +26,9 @@ use Rattle.rhai_productions.specs.Derived.{knows, adds, part}
 use Rattle.rhai_productions.specs.Promised.{Written}
 use Rattle.rhai_productions.specs.Rules as P
 use Rattle.rhai_productions.specs.Rules.{production}
-use Rattle.rhai_productions.specs.WorkedForms.{IsTrue, start}
+use Rattle.rhai_productions.specs.WorkedForms.{IsTrue, begun, start}
 
 -- ---- statements
-
--- the first token of a statement
-abbrev pub begun : {c : Context} {w : Live} {f : node.Statement × Live} → Form production (Statement c w) f
-    → Lexeme × Position
-begun (form (choose l at f)) = (l, at)
 
 abbrev pub IsExpression : StatementStart → Type 0
 IsExpression first.Expression = Unit {0}
@@ -149,10 +144,10 @@ semicolon_then {closing = EndMark} column rest =
     choose (Sign token.SemiColon) (place 1 column) (this (Sign token.SemiColon) (place 1 column) (part _ rest given))
 
 -- the statements after one that ends by itself
-abbrev pub then : {closing : Closing} {c : Context} {w v : Live} {before fs : node.Statements}
+abbrev pub followed_by : {closing : Closing} {c : Context} {w v : Live} {before fs : node.Statements}
     {x : node.Statements × Live} → Form production (Statements closing c v fs) x
     → Filled production (Statements closing c w before) (P.after_one closing c v fs true) x
-then rest = part _ rest given
+followed_by rest = part _ rest given
 
 -- the last statement of a script, before the end mark; and of a block, before its `}`
 abbrev pub last_before : {c : Context} {w v : Live} {before fs : node.Statements} (end : ℕ)
@@ -234,3 +229,17 @@ abbrev pub returns : {c : Context} {w : Live} {x : node.Optional} (at : ℕ)
     → Form production (Statement c w) (return_statement x false (place 1 at), w)
 returns at f =
     form (choose (Sign token.Return) (place 1 at) (this (Sign token.Return) (place 1 at) (part _ f given)))
+
+abbrev break_there : {c : Context} {w : Live} {x : node.Statement × Live} (b : Bool) → IsTrue b
+    → Filled production (Statement c w) (P.statement_by c w first.Break) x
+    → Filled production (Statement c w) (P.statement_by c w (if b then first.Break else first.Expression)) x
+break_there true so f = f
+break_there false so f = absurd so
+
+-- a `break`, where loops are allowed
+abbrev pub breaks : {c : Context} {w : Live} {x : node.Optional} (at : ℕ) → IsTrue (allows_looping c)
+    → Form production (goal.Jump c w (place 1 at)) x
+    → Form production (Statement c w) (node.break_loop x true (place 1 at), w)
+breaks {c} at so f =
+    form (choose (Sign token.Break) (place 1 at) (break_there (allows_looping c) so (
+    this (Sign token.Break) (place 1 at) (must (part _ f given)))))
