@@ -3,8 +3,8 @@ use Rattle.std.proofs.Common.{refl, inl, inr}
 use Rattle.std.specs.Prelude.{◌++◌, codes}
 use Rattle.rhai_grammar.specs.Prelude.{place, refusal, one_more, number}
 use Rattle.rhai_grammar.specs.Causes as cause
-use Rattle.rhai_grammar.specs.Rows.{between}
 use Rattle.rhai_grammar.specs.RowsOfConstructs.{ArmRow, BreakRow, DefaultRow, IntegerRow, LoopRow, PipeRow, arm_begun}
+use Rattle.rhai_grammar.specs.RowStreams.{between}
 use Rattle.rhai_grammar.specs.RowsOfConstructs.{arm_rest, integer_action, integer_rest, range_action, range_case}
 
 pub loop_row : LoopRow

@@ -44,6 +44,8 @@ pub mod Promises
 pub mod Spelling
 pub mod Shapes
 pub mod Laws
+pub mod RowStreams
+pub mod EntryContexts
 pub mod Rows
 pub mod RowsOfChains
 pub mod RowsOfStatements

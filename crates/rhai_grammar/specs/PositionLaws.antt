@@ -13,7 +13,8 @@ use Rattle.rhai_grammar.specs.Demands.{Missed}
 use Rattle.rhai_grammar.specs.Forms.{Run, Statements}
 use Rattle.rhai_grammar.specs.Libraries.{Library}
 use Rattle.rhai_grammar.specs.Promises.{IsNamed, expressions, scripts}
-use Rattle.rhai_grammar.specs.Rows.{between, ended_tokens, pair_tokens}
+use Rattle.rhai_grammar.specs.Rows.{ended_tokens, pair_tokens}
+use Rattle.rhai_grammar.specs.RowStreams.{between}
 use Rattle.rhai_grammar.specs.Written.{whole_expression, whole_script}
 
 -- This is the position of one of these tokens, or of the one that comes next. At the end of a stream, that is the end

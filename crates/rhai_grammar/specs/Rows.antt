@@ -1,15 +1,14 @@
 -- Worked rows: scripts, their written forms, and what holds of them. What holds is what the definitions say.
-use Rattle.std.specs.Prelude.{◌≡◌, ℕ, pos, codes, None, false, List, [], ◌∷◌, ◌++◌, reverse}
+use Rattle.std.specs.Prelude.{◌≡◌, ℕ, pos, codes, None, false, List, [], ◌∷◌, ◌++◌}
 use Rattle.rhai_lower.specs.Positions.{place}
 use Rattle.rhai_lower.specs.Lexemes.{Lexeme, Integer, Name, Sign}
 use Rattle.rhai_lower.specs.Nodes.{Node, unit, integer, array, call, no_nodes, one_node}
 use Rattle.rhai_lower.specs.declared.token.Token.TheVariants.{Plus, Multiply, Minus, ExclusiveRange, LeftParen}
 use Rattle.rhai_lower.specs.declared.token.Token.TheVariants.{RightParen, LeftBracket, RightBracket, Comma}
-use Rattle.rhai_grammar.specs.declared.filter.ExprFilter.TheVariants.{All}
 use Rattle.rhai_grammar.specs.Causes as cause
 use Rattle.rhai_grammar.specs.Causes.{Refusal, refusal}
-use Rattle.rhai_grammar.specs.Delivered.{code, item, Tokens, Ends, Then, Taken, Point}
-use Rattle.rhai_grammar.specs.Contexts.{Context, nothing_known, nothing_live}
+use Rattle.rhai_grammar.specs.Delivered.{code}
+use Rattle.rhai_grammar.specs.Contexts.{Context, nothing_live}
 use Rattle.rhai_grammar.specs.Operators.{operator_call}
 use Rattle.rhai_grammar.specs.Forms.{Primary, Operand, Run, Just, Binary, Linked, NoLink, NoPath, Plain, Value, Named}
 use Rattle.rhai_grammar.specs.Forms.{Array, Call, Signed, NoOperand, Listed, Last, Element, LastElement, Zero}
@@ -17,33 +16,7 @@ use Rattle.rhai_grammar.specs.Literals.{too_many_items}
 use Rattle.rhai_grammar.specs.Trees.{function_called, named_by, tree, variable_of}
 use Rattle.rhai_grammar.specs.Demands.{Met, Missed}
 use Rattle.rhai_grammar.specs.Written.{whole_expression}
-
--- tokens on the first line, each at its column and the same in both modes, and the end mark at a column
-abbrev pub line : List (Lexeme × ℕ) → ℕ → Tokens
-line [] end = Ends (place 1 end)
-line (t ∷ ts) end = let rest = line ts end in let i = item t.0 (place 1 t.1) in Then i i rest rest
-
-abbrev pub unread : List (Lexeme × ℕ) → ℕ → Point
-unread ts end = record { tokens = line ts end; taken = []; library = []; captured = [] }
-
-abbrev pub taken_from : List (Lexeme × ℕ) → List Taken
-taken_from [] = []
-taken_from (t ∷ ts) = record { mode = code; item = item t.0 (place 1 t.1) } ∷ taken_from ts
-
--- the point at which the first of these tokens were taken, and the second are left
-abbrev pub between : List (Lexeme × ℕ) → List (Lexeme × ℕ) → ℕ → Point
-between ts us end = record { tokens = line us end; taken = reverse (taken_from ts); library = []; captured = [] }
-
--- a context at level 0 with a depth limit, without flags and options, and with literals of any size
-abbrev pub depth : ℕ → Context
-depth limit = record {
-  settings = record { flags = 0; options = 0; level = 0; limit = limit };
-  options = 191;
-  sizes = record { array = 0; map = 0; function_depth = 32; functions = 100 };
-  filter = All;
-  known = nothing_known;
-  begun = 0;
-}
+use Rattle.rhai_grammar.specs.RowStreams.{between, depth, unread}
 
 -- an operand without links
 abbrev pub plain : Primary → Operand

@@ -16,7 +16,8 @@ use Rattle.rhai_grammar.specs.Trees.{variable_of, tree}
 use Rattle.rhai_grammar.specs.Delivered.{code}
 use Rattle.rhai_grammar.specs.Demands.{Missed}
 use Rattle.rhai_grammar.specs.Written.{whole_expression}
-use Rattle.rhai_grammar.specs.Rows.{unread, between, depth, Fits}
+use Rattle.rhai_grammar.specs.Rows.{Fits}
+use Rattle.rhai_grammar.specs.RowStreams.{between, depth, unread}
 
 -- ---- forms and nodes on the first line, each token at its column
 

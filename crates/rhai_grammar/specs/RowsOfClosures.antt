@@ -16,19 +16,15 @@ use Rattle.rhai_grammar.specs.Demands.{Met, Missed}
 use Rattle.rhai_grammar.specs.Forms as form
 use Rattle.rhai_grammar.specs.Forms.{ClosureBody, ClosureHead, Run, Statements}
 use Rattle.rhai_grammar.specs.Libraries.{Ended}
-use Rattle.rhai_grammar.specs.Rows.{between, depth, number, plain, unread}
+use Rattle.rhai_grammar.specs.Rows.{number, plain}
+use Rattle.rhai_grammar.specs.RowStreams.{between, depth, holding, on_global_level, unread, with_closures}
 use Rattle.rhai_grammar.specs.RowsOfConstructs.{arm_of, switch_alone}
-use Rattle.rhai_grammar.specs.RowsOfFunctions.{holding, one_function}
-use Rattle.rhai_grammar.specs.RowsOfModules.{on_global_level}
+use Rattle.rhai_grammar.specs.RowsOfFunctions.{one_function}
 use Rattle.rhai_grammar.specs.RowsOfStatements.{evaluates, integer, let_tokens, named, with_semicolon}
 use Rattle.rhai_grammar.specs.Operators.{operator_call}
 use Rattle.rhai_grammar.specs.Trees.{body_tree, statement_trees, tree, variable_of}
 use Rattle.rhai_grammar.specs.Uses.{Use}
 use Rattle.rhai_grammar.specs.Written.{whole_expression, whole_script}
-
--- under the engine's default depth limit, with closures as operands
-abbrev pub with_closures : Context
-with_closures = record (depth 64) { settings = record { flags = 0; options = 16; level = 0; limit = 64 } }
 
 abbrev pub bars : ℕ → ClosureHead
 bars column = form.Bars (place 1 column)

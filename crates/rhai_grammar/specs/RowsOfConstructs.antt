@@ -16,7 +16,8 @@ use Rattle.rhai_grammar.specs.Demands.{Met, Missed}
 use Rattle.rhai_grammar.specs.Forms as form
 use Rattle.rhai_grammar.specs.Forms.{Binary, Run, Statements}
 use Rattle.rhai_grammar.specs.Operators.{operator_call}
-use Rattle.rhai_grammar.specs.Rows.{between, depth, number, plain, unread}
+use Rattle.rhai_grammar.specs.Rows.{number, plain}
+use Rattle.rhai_grammar.specs.RowStreams.{between, depth, unread}
 use Rattle.rhai_grammar.specs.RowsOfStatements.{FitsAsScript, begins, defines, definition, evaluates, integer}
 use Rattle.rhai_grammar.specs.RowsOfStatements.{with_semicolon}
 use Rattle.rhai_grammar.specs.RowsOfStatements.{let_tokens, named, variable}

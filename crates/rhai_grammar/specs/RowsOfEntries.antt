@@ -1,6 +1,6 @@
 -- Worked rows under a new engine's settings. These are what it hands over at its two entries. The rows are forms, their
 -- trees, and what is refused.
-use Rattle.std.specs.Prelude.{◌≡◌, ◌-◌, ◌^◌, ℕ, None, List, [], ◌∷◌, ◌++◌, codes, false}
+use Rattle.std.specs.Prelude.{◌≡◌, ℕ, None, List, [], ◌∷◌, ◌++◌, codes, false}
 use Rattle.rhai_lower.specs.Lexemes.{Lexeme, Name, Sign, String}
 use Rattle.rhai_lower.specs.Nodes as node
 use Rattle.rhai_lower.specs.Nodes.{Node}
@@ -9,7 +9,7 @@ use Rattle.rhai_lower.specs.declared.token.Token.TheVariants as token
 use Rattle.rhai_lower.specs.Slots.{fresh_slot}
 use Rattle.rhai_grammar.specs.Causes as cause
 use Rattle.rhai_grammar.specs.Causes.{Refusal, refusal}
-use Rattle.rhai_grammar.specs.Contexts.{Context, nothing_known, nothing_live}
+use Rattle.rhai_grammar.specs.Contexts.{nothing_live}
 use Rattle.rhai_grammar.specs.Definitions.{after_statements}
 use Rattle.rhai_grammar.specs.Delivered.{code, past, text}
 use Rattle.rhai_grammar.specs.Demands.{Met, Missed}
@@ -17,45 +17,20 @@ use Rattle.rhai_grammar.specs.Forms as form
 use Rattle.rhai_grammar.specs.Forms.{Run, Statements}
 use Rattle.rhai_grammar.specs.Libraries.{Ended, Library}
 use Rattle.rhai_grammar.specs.Rows as rows
-use Rattle.rhai_grammar.specs.Rows.{between, plain, unread}
+use Rattle.rhai_grammar.specs.EntryContexts.{at_entry, entry_expression, entry_script}
+use Rattle.rhai_grammar.specs.RowStreams.{between, holding, unread}
+use Rattle.rhai_grammar.specs.Rows.{plain}
 use Rattle.rhai_grammar.specs.RowsOfChains as chain
 use Rattle.rhai_grammar.specs.RowsOfClosures as closed
 use Rattle.rhai_grammar.specs.RowsOfConstructs as construct
-use Rattle.rhai_grammar.specs.RowsOfFunctions.{holding}
 use Rattle.rhai_grammar.specs.RowsOfModules as twice
 use Rattle.rhai_grammar.specs.RowsOfStatements as statement
 use Rattle.rhai_grammar.specs.RowsOfStatements.{named}
 use Rattle.rhai_grammar.specs.RowsOfStrings as string
 use Rattle.rhai_grammar.specs.Trees.{statement_trees, tree}
 use Rattle.rhai_grammar.specs.Written.{whole_expression, whole_script}
-use Rattle.rhai_grammar.specs.declared.filter.ExprFilter.TheVariants.{All}
 
 -- ---- the two entries
-
--- A new engine, in a fresh state, with these flags and options in the settings, this depth limit, and at most so many
--- functions: all options but strict variables, literals of any size, and a depth of 32 in functions.
-abbrev pub at_entry : (flags options limit functions : ℕ) → Context
-at_entry flags options limit functions = record {
-  settings = record { flags = flags; options = options; level = 0; limit = limit };
-  options = 191;
-  sizes = record { array = 0; map = 0; function_depth = 32; functions = functions };
-  filter = All;
-  known = nothing_known;
-  begun = 0;
-}
-
--- as many functions as 64 bits can count
-abbrev pub any_functions : ℕ
-any_functions = 2 ^ 64 - 1
-
--- For one expression: the flags of the global level and of blocks that are one expression, and the options without
--- blocks and loops as operands.
-abbrev pub entry_expression : (limit : ℕ) → Context
-entry_expression limit = at_entry 17 179 limit any_functions
-
--- for a script: the flag of the global level, and all options of the engine
-abbrev pub entry_script : Context
-entry_script = at_entry 1 191 64 any_functions
 
 -- An expression has this tree, fits at its entry, and spells these tokens; these functions end in it.
 pub record EntersExpression (f : Run) (tokens : List (Lexeme × ℕ)) (end : ℕ) (x : Node) (ended : Library) : Type 0 where

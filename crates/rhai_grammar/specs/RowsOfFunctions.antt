@@ -7,14 +7,13 @@ use Rattle.rhai_lower.specs.declared.token.Token.TheVariants as token
 use Rattle.rhai_grammar.specs.Causes as cause
 use Rattle.rhai_grammar.specs.Causes.{refusal}
 use Rattle.rhai_grammar.specs.Contexts.{Context, nothing_live}
-use Rattle.rhai_grammar.specs.Delivered.{Point, code}
+use Rattle.rhai_grammar.specs.Delivered.{code}
 use Rattle.rhai_grammar.specs.Demands.{Met, Missed}
 use Rattle.rhai_grammar.specs.Forms as form
 use Rattle.rhai_grammar.specs.Forms.{Statements}
-use Rattle.rhai_grammar.specs.Libraries.{Ended, Library}
-use Rattle.rhai_grammar.specs.Rows.{between, unread}
-use Rattle.rhai_grammar.specs.RowsOfModules.{on_global_level}
+use Rattle.rhai_grammar.specs.Libraries.{Ended}
 use Rattle.rhai_grammar.specs.RowsOfStatements.{evaluates, named, variable}
+use Rattle.rhai_grammar.specs.RowStreams.{between, holding, on_global_level, unread}
 use Rattle.rhai_grammar.specs.Trees.{statement_trees}
 use Rattle.rhai_grammar.specs.Written.{whole_script}
 
@@ -56,10 +55,6 @@ abbrev pub depth_of_functions : ℕ → Context
 depth_of_functions limit = record on_global_level {
   sizes = record { array = 0; map = 0; function_depth = limit; functions = 100 };
 }
-
--- a point with these functions
-abbrev pub holding : Library → Point → Point
-holding library s = record s { library = library }
 
 -- The script has the function and no statements. Where a function of that name and number of parameters has ended
 -- before, this one is refused at its `fn`, after its body. Under the depth limit 3 for functions the `a` of the body is

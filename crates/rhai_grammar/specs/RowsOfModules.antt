@@ -6,13 +6,13 @@ use Rattle.rhai_lower.specs.Slots.{fresh_slot}
 use Rattle.rhai_lower.specs.Lexemes.{Lexeme, Name, Sign, String}
 use Rattle.rhai_lower.specs.Nodes as node
 use Rattle.rhai_lower.specs.declared.token.Token.TheVariants as token
-use Rattle.rhai_grammar.specs.Contexts.{Context, nothing_live}
+use Rattle.rhai_grammar.specs.Contexts.{nothing_live}
 use Rattle.rhai_grammar.specs.Definitions.{after_statements}
 use Rattle.rhai_grammar.specs.Demands.{Met}
 use Rattle.rhai_grammar.specs.Forms as form
 use Rattle.rhai_grammar.specs.Forms.{Run, Statements}
-use Rattle.rhai_grammar.specs.Rows.{between, depth, unread}
 use Rattle.rhai_grammar.specs.RowsOfStatements.{FitsAsScript, evaluates, with_semicolon}
+use Rattle.rhai_grammar.specs.RowStreams.{between, on_global_level, unread}
 use Rattle.rhai_grammar.specs.Trees.{statement_trees}
 use Rattle.rhai_grammar.specs.Written.{whole_script}
 
@@ -104,10 +104,6 @@ exported_tree =
     node.one_statement (declared 8 (codes "y") None false) (
     node.one_statement (declared 22 (codes "x") (Some 2) true) (
     node.one_statement (declared 29 (codes "x") None false) node.no_statements)))
-
--- under the flag that says that the global level is parsed
-abbrev pub on_global_level : Context
-on_global_level = record (depth 64) { settings = record { flags = 1; options = 0; level = 0; limit = 64 } }
 
 -- The exported definition uses the first slot again, and the one after it gets a new slot, since that is exported.
 pub record ExportedRow : Type 0 where

@@ -19,7 +19,8 @@ use Rattle.rhai_grammar.specs.Trees.{variable_of, statement_trees, tree}
 use Rattle.rhai_grammar.specs.Delivered.{code}
 use Rattle.rhai_grammar.specs.Demands.{Met, Missed}
 use Rattle.rhai_grammar.specs.Written.{whole_expression, whole_script}
-use Rattle.rhai_grammar.specs.Rows.{unread, between, depth, number, plain}
+use Rattle.rhai_grammar.specs.Rows.{number, plain}
+use Rattle.rhai_grammar.specs.RowStreams.{between, depth, unread}
 
 -- ---- forms, nodes and tokens on the first line, each token at its column
 

@@ -15,7 +15,8 @@ use Rattle.rhai_grammar.specs.Forms.{Run, Just, Binary, Statements}
 use Rattle.rhai_grammar.specs.Trees.{variable_of, tree}
 use Rattle.rhai_grammar.specs.Demands.{Met, Missed}
 use Rattle.rhai_grammar.specs.Written.{whole_expression, whole_script}
-use Rattle.rhai_grammar.specs.Rows.{between, depth, number, plain, taken_from, unread}
+use Rattle.rhai_grammar.specs.Rows.{number, plain}
+use Rattle.rhai_grammar.specs.RowStreams.{between, depth, taken_from, unread}
 use Rattle.rhai_grammar.specs.RowsOfStatements.{evaluates, integer, named}
 
 -- ---- interpolated strings

@@ -68,3 +68,9 @@ pub mod LinesOfFunctions
 pub mod LinesOfClosures
 pub mod Evaluation
 pub mod SumRowLemmas
+pub mod ChainRowLemmas
+pub mod StatementRowLemmas
+pub mod StringRowLemmas
+pub mod ConstructRowLemmas
+pub mod ModuleRowLemmas
+pub mod FunctionRowLemmas

@@ -47,4 +47,11 @@ pub mod WorkedForms
 pub mod WorkedOpenForms
 pub mod WorkedStatements
 pub mod WorkedFunctions
+pub mod WorkedOpenStatements
 pub mod RowsOfSums
+pub mod RowsOfChains
+pub mod RowsOfStatements
+pub mod RowsOfStrings
+pub mod RowsOfConstructs
+pub mod RowsOfModules
+pub mod RowsOfFunctions

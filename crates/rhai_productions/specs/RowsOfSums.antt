@@ -5,7 +5,6 @@ use Rattle.rhai_grammar.specs.Contexts.{Context}
 use Rattle.rhai_grammar.specs.Delivered.{code}
 use Rattle.rhai_grammar.specs.Literals.{too_many_items}
 use Rattle.rhai_grammar.specs.Operators.{operator_call}
-use Rattle.rhai_grammar.specs.Rows.{between, depth, unread}
 use Rattle.rhai_grammar.specs.Trees.{function_called, named_by, variable_of}
 use Rattle.rhai_lower.specs.Lexemes.{Integer, Lexeme, Name, Sign}
 use Rattle.rhai_lower.specs.Nodes.{Node}
@@ -22,6 +21,7 @@ use Rattle.rhai_productions.specs.WorkedOpenForms.{open_items, open_operand, ope
 use Rattle.rhai_productions.specs.WorkedOpenForms.{open_tighter, open_whole, too_deep}
 use Rattle.rhai_productions.specs.WorkedTokens.{closing_bracket, closing_paren, comma, end_mark, plus, times, to}
 use Rattle.std.specs.Prelude.{List, None, ℕ, [], codes, false, map, pos, ◌++◌, ◌+◌, ◌∷◌, ◌≡◌}
+use Rattle.rhai_grammar.specs.RowStreams.{between, depth, unread}
 
 -- ---- sums and products
 

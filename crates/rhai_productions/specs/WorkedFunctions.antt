@@ -6,8 +6,8 @@ use Rattle.rhai_lower.specs.Nodes as node
 use Rattle.rhai_lower.specs.Nodes.{for_statement}
 use Rattle.rhai_lower.specs.declared.token.Token.TheVariants as token
 use Rattle.rhai_grammar.specs.Constructs.{may_stand}
-use Rattle.rhai_grammar.specs.Prelude.{Collected, Comment, Context, Link, Live, Name, Node, Nodes, Position, Sign, Text}
-use Rattle.rhai_grammar.specs.Prelude.{Use, arm_role, below_global, block_value, chained, closure_node, ends_arm}
+use Rattle.rhai_grammar.specs.Prelude.{Collected, Comment, Context, Ended, Link, Live, Name, Node, Nodes, Position, Sign, Text}
+use Rattle.rhai_grammar.specs.Prelude.{Use, added_text, arm_role, below_global, block_value, braces, chained, closure_node, ended_function, ends_arm}
 use Rattle.rhai_grammar.specs.Prelude.{has_single_blocks, in_block, in_case, in_closure, in_function, level_up, loop_body}
 use Rattle.rhai_grammar.specs.Prelude.{loop_live, made_block, may_be_closure, noop, nothing_collected, parameters_live}
 use Rattle.rhai_grammar.specs.Prelude.{place, spot_after_operand, switch_tree, with_arm_collected, with_node}
@@ -21,13 +21,14 @@ use Rattle.rhai_grammar.specs.declared.role.Construct.{Construct}
 use Rattle.rhai_grammar.specs.declared.role.Construct.TheVariants as kind
 use Rattle.rhai_grammar.specs.declared.role.StatementStart.TheVariants as first
 use Rattle.rhai_reading.specs.Goals as goal
-use Rattle.rhai_reading.specs.Reading.{Goal, Val, Expression, Operand, Links, Statement, Block}
+use Rattle.rhai_reading.specs.Reading.{Goal, Val, Expression, Operand, Links, Statement, Inside, Block}
 use Rattle.rhai_productions.specs.Schema.{Production}
 use Rattle.rhai_productions.specs.Derived.{Form, Filled, form, given, take, this, if_so, if_not, choose, here, must}
-use Rattle.rhai_productions.specs.Derived.{adds, apart, captures, knows, literal, part}
+use Rattle.rhai_productions.specs.Derived.{adds, apart, captures, in_text, knows, literal, part}
 use Rattle.rhai_productions.specs.Rules as P
 use Rattle.rhai_productions.specs.Rules.{production}
-use Rattle.rhai_productions.specs.WorkedForms.{IsTrue, holds, linked, start}
+use Rattle.rhai_productions.specs.WorkedForms.{IsTrue, holds, linked, start, unlinked}
+use Rattle.rhai_productions.specs.WorkedTokens.{After}
 
 -- ---- loops
 
@@ -133,16 +134,20 @@ one_parameter opening name column closing =
     choose (Sign token.RightParen) (place 1 closing) (
     this (Sign token.RightParen) (place 1 closing) given)))))) given)))
 
--- a function after its `fn`: its name, its parameters, and the block of its body
+-- the name of a function, its parameters, and the block of its body
+abbrev pub headed : {c : Context} {comments : List Comment} {at : Position} {is_private : Bool} {names : List Text}
+    {b : node.Block} (name : Text) (column : ℕ) → Form production (goal.ParameterList name) names → (opening : ℕ)
+    → Form production (Block (level_up c) (parameters_live names) (place 1 opening)) b
+    → Form production (goal.Function c comments at is_private) (ended_function comments is_private None name names b)
+headed name column names opening body =
+    form (part _ (form (take (Name name) (place 1 column) (if_not (must given)))) (
+    part _ names (if_so (this (Sign token.LeftBrace) (place 1 opening) (must (part _ body given))))))
+
+-- a function after its `fn`
 abbrev pub function : {c : Context} {w : Live} {comments : List Comment} {at first : Position} {is_private : Bool}
-    {names : List Text} {b : node.Block} (name : Text) (column : ℕ)
-    → Form production (goal.ParameterList name) names → (opening : ℕ)
-    → Form production (Block (level_up (level_up (in_function c w))) (parameters_live names) (place 1 opening)) b
+    {x : Ended} → Form production (goal.Function (level_up (in_function c w)) comments at is_private) x
     → Form production (goal.FunctionStatement c w comments first at is_private) (noop at, w)
-function name column names opening body =
-    form (must (knows (must (part _ (form (part _ (form (take (Name name) (place 1 column) (if_not (must given)))) (
-    part _ names (if_so (this (Sign token.LeftBrace) (place 1 opening) (must (part _ body given))))))) (
-    knows (adds given))))))
+function f = form (must (knows (must (part _ f (knows (adds given))))))
 
 abbrev pub declares : {c : Context} {w : Live} {f : node.Statement × Live} (at : ℕ)
     → Form production (goal.FunctionStatement c w [] (place 1 at) (place 1 at) false) f
@@ -158,6 +163,25 @@ documented text column at f =
     form (choose (lexeme.Comment text) (place 1 column) (this (lexeme.Comment text) (place 1 column) (must (
     part _ (form (if_not given)) (choose (Sign token.Fn) (place 1 at) (
     this (Sign token.Fn) (place 1 at) (part _ f given)))))))
+
+-- ---- interpolated strings
+
+abbrev pub interpolated : {c : Context} {w : Live} {o : Option (ℕ × Bool)} {ns : Nodes} (text : Text) (column : ℕ)
+    → Form production (goal.Segments (level_up c) w (place 1 column) (added_text node.no_nodes text (place 1 column))) ns
+    → After c.filter o → Form production (Operand c w) (node.interpolated ns (place 1 column))
+interpolated text column segments t =
+    form (choose (lexeme.Interpolated text) (place 1 column) (linked (form (
+    choose (lexeme.Interpolated text) (place 1 column) (this (lexeme.Interpolated text) (place 1 column) (
+    must (part _ segments given))))) (unlinked t)))
+
+-- a block of an interpolated string, and the last text after it
+abbrev pub last_segment : {c : Context} {w : Live} {start : Position} {before : Nodes} {fs : node.Statements}
+    (opening : ℕ) → Form production (Inside (level_up c) w) fs → (closing : ℕ) (text : Text) (column : ℕ)
+    → Form production (goal.Segments c w start before)
+    (added_text (with_node before (block_value (braces fs (place 1 opening) (place 1 closing)))) text (place 1 column))
+last_segment opening f closing text column =
+    form (part _ (form (take (Sign token.LeftBrace) (place 1 opening) given)) (must (part _ f (
+    part _ (form (in_text (place 1 closing) (lexeme.String text) (place 1 column) given)) given))))
 
 -- ---- closures
 
