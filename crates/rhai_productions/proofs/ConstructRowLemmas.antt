@@ -26,4 +26,4 @@ integer_row = record { missed = stops (assumption) }
 
 pub pipe_row : PipeRow
 unfolding one_more number
-pipe_row = record { missed = ? }
+pipe_row = record { missed = stops (assumption) }

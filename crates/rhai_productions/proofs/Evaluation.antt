@@ -1,9 +1,13 @@
 -- Demands that are met or missed by evaluation: what is left to show are equations.
 use Rattle.std.proofs.Common.{◌≡◌, Bool, true, false, List, refl, sym, subst, inl, inr}
-use Rattle.rhai_grammar.specs.Causes.{Refusal, as_literal}
-use Rattle.rhai_grammar.specs.Delivered.{Mode, code, Point, adding, apart, next_at, past, capturing, with_captured}
-use Rattle.rhai_grammar.specs.Demands.{Adds, Ahead, Apart, Captures, Demands, Fine, HasCaptured, Literally, Met, Missed}
-use Rattle.rhai_grammar.specs.Demands.{Next, Nothing, Refused, Shape, Test, TestIn, Tok, Uses, verdict, ◌▸◌}
+use Rattle.rhai_lower.specs.Lexemes.{Lexeme}
+use Rattle.rhai_lower.specs.Positions.{nowhere}
+use Rattle.rhai_lower.specs.declared.position.Position.{Position}
+use Rattle.rhai_grammar.specs.Causes.{ExprTooDeep, Refusal, as_literal, refusal}
+use Rattle.rhai_grammar.specs.Delivered.{Item, Mode, code, Point, adding, apart, next_at, past, capturing, with_captured}
+use Rattle.rhai_grammar.specs.Demands.{Adds, Ahead, Apart, Blames, Captures, Demands, Fine, HasCaptured, Literally, Met}
+use Rattle.rhai_grammar.specs.Demands.{Missed, Next, Nothing, Otherwise, Refused, Shape, Test, TestIn, Tok, Uses}
+use Rattle.rhai_grammar.specs.Demands.{Verdict, Wrong, verdict, ◌▸◌}
 use Rattle.rhai_reading.specs.Reading.{Goal}
 use Rattle.rhai_productions.specs.Promised.{Unwritten, Written, unwritten, written}
 use Rattle.rhai_productions.specs.WorkedForms.{Fits, Misses}
@@ -63,6 +67,42 @@ meets (Apart inner number captured ▸ rest) s m =
 pub fits : {g : Goal} {f : Written g} {s t : Point} → Meets (written g f) s → after (written g f) s ≡ t → Fits g f s t
 fits {g} {f} {s} {t} m e = record { met = subst (λ u. Met (written g f) s u) e (meets (written g f) s m) }
 
+-- the error of a verdict on a token at this position; some other one, if it has none
+abbrev error_of : Verdict → Position → Refusal
+error_of (Wrong why) at = refusal why at
+error_of (Blames why) at = why
+error_of Fine at = refusal ExprTooDeep at
+error_of Otherwise at = refusal ExprTooDeep at
+
+abbrev error_at : (Lexeme → Verdict) → Item → Refusal
+error_at test token = error_of (verdict test token.lexeme) token.at
+
+-- the error of the last demand, where those before it are met
+abbrev pub blame : Demands → Point → Refusal
+blame Nothing s = refusal ExprTooDeep nowhere
+blame (Tok by token others ▸ Nothing) s = error_at others (next_at by s)
+blame (Tok by token others ▸ (d ▸ rest)) s = blame (d ▸ rest) (past by s)
+blame (Ahead token others ▸ Nothing) s = error_at others (next_at code s)
+blame (Ahead token others ▸ (d ▸ rest)) s = blame (d ▸ rest) s
+blame (Next test ▸ Nothing) s = error_at test (next_at code s)
+blame (Next test ▸ (d ▸ rest)) s = blame (d ▸ rest) s
+blame (Uses test captures u ▸ Nothing) s = error_at (test s.library) (next_at code s)
+blame (Uses test captures u ▸ (d ▸ rest)) s =
+    blame (d ▸ rest) (capturing (captures s.library (next_at code s).lexeme) u s)
+blame (Test holds why ▸ Nothing) s = why
+blame (Test holds why ▸ (d ▸ rest)) s = blame (d ▸ rest) s
+blame (TestIn holds why ▸ Nothing) s = why
+blame (TestIn holds why ▸ (d ▸ rest)) s = blame (d ▸ rest) s
+blame (Adds ended ▸ rest) s = blame rest (adding ended s)
+blame (Captures holds why captures u ▸ Nothing) s = why
+blame (Captures holds why captures u ▸ (d ▸ rest)) s = blame (d ▸ rest) (capturing (captures s.library) u s)
+blame (Shape holds ▸ rest) s = blame rest s
+blame (Literally inner ▸ Nothing) s = as_literal (blame inner s)
+blame (Literally inner ▸ (d ▸ rest)) s = blame (d ▸ rest) (after inner s)
+blame (Apart inner number captured ▸ Nothing) s = blame inner (apart s)
+blame (Apart inner number captured ▸ (d ▸ rest)) s =
+    blame (d ▸ rest) (with_captured s.captured (after inner (apart s)))
+
 -- what makes the last demand missed, and those before it met
 abbrev pub Stops : Demands → Point → Refusal → Mode → Point → Type 0
 Stops Nothing s e m t = ⊥
@@ -89,7 +129,7 @@ Stops (Captures holds why captures u ▸ Nothing) s e m t =
 Stops (Captures holds why captures u ▸ (d ▸ rest)) s e m t =
     (holds s.library ≡ true) × Stops (d ▸ rest) (capturing (captures s.library) u s) e m t
 Stops (Shape holds ▸ rest) s e m t = (holds ≡ true) × Stops rest s e m t
-Stops (Literally inner ▸ Nothing) s e m t = (why : Refusal) × Stops inner s why m t × (e ≡ as_literal why)
+Stops (Literally inner ▸ Nothing) s e m t = Stops inner s (blame inner s) m t × (e ≡ as_literal (blame inner s))
 Stops (Literally inner ▸ (d ▸ rest)) s e m t = Meets inner s × Stops (d ▸ rest) (after inner s) e m t
 Stops (Apart inner number captured ▸ Nothing) s e m t = Stops inner (apart s) e m t
 Stops (Apart inner number captured ▸ (d ▸ rest)) s e m t =
@@ -115,7 +155,7 @@ missed_by (Adds ended ▸ rest) s e m t k = (tt, missed_by rest (adding ended s)
 missed_by (Captures holds why captures u ▸ Nothing) s e m t k = inl k
 missed_by (Captures holds why captures u ▸ (d ▸ rest)) s e m t k = inr (k.0, missed_by (d ▸ rest) _ e m t k.1)
 missed_by (Shape holds ▸ rest) s e m t k = (k.0, missed_by rest s e m t k.1)
-missed_by (Literally inner ▸ Nothing) s e m t k = inl (k.0, missed_by inner s k.0 m t k.1, k.2)
+missed_by (Literally inner ▸ Nothing) s e m t k = inl (blame inner s, missed_by inner s (blame inner s) m t k.0, k.1)
 missed_by (Literally inner ▸ (d ▸ rest)) s e m t k =
     inr (after inner s, meets inner s k.0, missed_by (d ▸ rest) _ e m t k.1)
 missed_by (Apart inner number captured ▸ Nothing) s e m t k = inl (missed_by inner (apart s) e m t k)

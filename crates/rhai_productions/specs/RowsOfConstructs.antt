@@ -1,7 +1,7 @@
 -- Worked rows of loops and `switch`: lines, their written forms and trees, and what is refused.
 use Rattle.rhai_grammar.specs.Causes.{refusal}
 use Rattle.rhai_grammar.specs.Causes as cause
-use Rattle.rhai_grammar.specs.Contexts.{Context, nothing_live}
+use Rattle.rhai_grammar.specs.Contexts.{Context, allows_looping, has_single_blocks, loop_body, nothing_live}
 use Rattle.rhai_grammar.specs.Delivered.{code}
 use Rattle.rhai_grammar.specs.Operators.{operator_call}
 use Rattle.rhai_grammar.specs.RowStreams.{between, depth, unread}
@@ -17,13 +17,16 @@ use Rattle.rhai_productions.specs.Promised.{Unwritten, Written, tree_of}
 use Rattle.rhai_productions.specs.RowsOfStatements.{begins, definition, integer, let_tokens, variable}
 use Rattle.rhai_productions.specs.WorkedForms.{Fits, IsTrue, Misses, alone, ends, joins, name_alone, named, number}
 use Rattle.rhai_productions.specs.WorkedForms.{right, right_of_range, run, script}
+use Rattle.rhai_productions.specs.WorkedFunctions.{arm_then, brace_after, cased, comma_after, does, for_each, no_arm}
+use Rattle.rhai_productions.specs.WorkedFunctions.{switch, two_names}
 use Rattle.rhai_productions.specs.WorkedOpenForms.{open_operand, open_part}
+use Rattle.rhai_productions.specs.WorkedOpenStatements.{open_first, open_switch}
 use Rattle.rhai_productions.specs.WorkedStatements.{braced, breaks, closed, evaluates, first_of, followed_by}
 use Rattle.rhai_productions.specs.WorkedStatements.{giving_nothing, last_before, last_inside, lets, many, no_more}
 use Rattle.rhai_productions.specs.WorkedStatements.{semicolon_then, valued, written_as}
 use Rattle.rhai_productions.specs.WorkedTokens.{arrow, case_bar, closing_brace, comma, end_mark, opening_brace, plus}
 use Rattle.rhai_productions.specs.WorkedTokens.{semicolon, to}
-use Rattle.std.specs.Prelude.{List, None, Some, ℕ, [], codes, false, pos, true, ◌++◌, ◌+◌, ◌∷◌, ◌≡◌}
+use Rattle.std.specs.Prelude.{List, None, Some, ℕ, [], codes, false, not, pos, true, ◌++◌, ◌+◌, ◌∷◌, ◌≡◌}
 
 -- ---- loops
 
@@ -36,8 +39,8 @@ loop_tokens =
     ∷ (Sign token.Plus, 24) ∷ (Name (codes "i"), 26) ∷ (Sign token.RightBrace, 28) ∷ []
 
 -- under a context in which loops are allowed, and a block has statements
-abbrev pub loop_form : (c : Context) → IsTrue (allows_looping c) → IsTrue (not (has_single_blocks c)) → Written
-(script c)
+abbrev pub loop_form : (c : Context) → IsTrue (allows_looping c) → IsTrue (not (has_single_blocks (loop_body c))) →
+    Written (script c)
 loop_form c loops so =
     written_as (first_of (for_each 1 loops (two_names 5 (codes "a") 6 7 (codes "i") 9 10 12) (run (number 0 15 (to 16))
     (joins (to 16) tt (right_of_range (number 3 18 (opening_brace 20)) tt) (ends (opening_brace 20))
@@ -88,7 +91,7 @@ break_form = written_as (first_of (breaks 1 tt giving_nothing) tt (semicolon_the
 
 pub record BreakRow : Type 0 where
   pub missed : Misses (script (depth 64)) break_refused (unread break_tokens 7) (refusal cause.LoopBreak (place 1 1))
-  code
+      code
       (between break_begun break_rest 7)
   pub fits : Fits (script in_loop) break_form (unread break_tokens 7) (between break_tokens [] 7)
 

@@ -13,7 +13,11 @@ use Rattle.rhai_productions.specs.Derived.{choose, form, given, if_not, must, mu
 use Rattle.rhai_productions.specs.Promised.{Unwritten, Written, tree_of}
 use Rattle.rhai_productions.specs.RowsOfStatements.{variable}
 use Rattle.rhai_productions.specs.WorkedForms.{Fits, Misses, name_alone, script}
+use Rattle.rhai_productions.specs.WorkedFunctions.{declares, documented, function, headed, no_parameters}
+use Rattle.rhai_productions.specs.WorkedFunctions.{one_parameter}
 use Rattle.rhai_productions.specs.WorkedOpenForms.{too_deep}
+use Rattle.rhai_productions.specs.WorkedOpenStatements.{open_block_at, open_declares, open_evaluates, open_first}
+use Rattle.rhai_productions.specs.WorkedOpenStatements.{open_function, open_many, open_single, refused_function}
 use Rattle.rhai_productions.specs.WorkedStatements.{closed, evaluates, first_of, followed_by, last_inside, many}
 use Rattle.rhai_productions.specs.WorkedStatements.{no_more, no_more_inside, written_as}
 use Rattle.rhai_productions.specs.WorkedTokens.{closing_brace}

@@ -1,7 +1,7 @@
 -- Worked rows of statements: lines, their written forms and trees, and what is refused.
 use Rattle.rhai_grammar.specs.Causes.{Refusal, refusal}
 use Rattle.rhai_grammar.specs.Causes as cause
-use Rattle.rhai_grammar.specs.Contexts.{Context}
+use Rattle.rhai_grammar.specs.Contexts.{Context, has_single_blocks}
 use Rattle.rhai_grammar.specs.Delivered.{code}
 use Rattle.rhai_grammar.specs.RowStreams.{between, depth, unread}
 use Rattle.rhai_grammar.specs.Statements.{keyword_of}
@@ -19,11 +19,13 @@ use Rattle.rhai_productions.specs.Promised.{Unwritten, Written, tree_of}
 use Rattle.rhai_productions.specs.WorkedForms.{Fits, IsTrue, Misses, alone, ends, formula, name_alone, number, run}
 use Rattle.rhai_productions.specs.WorkedForms.{script, unlinked, whole}
 use Rattle.rhai_productions.specs.WorkedOpenForms.{open_part, too_deep}
+use Rattle.rhai_productions.specs.WorkedOpenStatements.{deep_let, open_block_at, open_evaluates, open_first, open_let}
+use Rattle.rhai_productions.specs.WorkedOpenStatements.{open_many, open_next, open_semicolon, refused_assignment}
 use Rattle.rhai_productions.specs.WorkedStatements.{block_at, closed, constant, evaluates, first_of, followed_by}
 use Rattle.rhai_productions.specs.WorkedStatements.{last_inside, lets, many, no_more, one, semicolon_then, single}
 use Rattle.rhai_productions.specs.WorkedStatements.{valued, written_as}
 use Rattle.rhai_productions.specs.WorkedTokens.{closing_brace, end_mark, equals, semicolon}
-use Rattle.std.specs.Prelude.{Bool, List, None, Option, Some, ℕ, [], codes, false, pos, true, ◌++◌, ◌+◌, ◌∷◌, ◌≡◌}
+use Rattle.std.specs.Prelude.{Bool, List, None, Option, Some, ℕ, [], codes, false, not, pos, true, ◌++◌, ◌+◌, ◌∷◌, ◌≡◌}
 
 -- ---- nodes and tokens on the first line, each token at its column
 
@@ -84,7 +86,7 @@ scopes_tree =
 pub record ScopesRow : Type 0 where
   pub tree_is : (tree_of (script (depth 64)) (scopes_form (depth 64) tt)).0 ≡ scopes_tree
   pub fits : Fits (script (depth 64)) (scopes_form (depth 64) tt) (unread scopes_tokens 39)
-  (between scopes_tokens [] 39)
+      (between scopes_tokens [] 39)
   pub live_is : (tree_of (script (depth 64)) (scopes_form (depth 64) tt)).1.slots
       ≡ fresh_slot (codes "x") false ∷ fresh_slot (codes "y") false ∷ []
 

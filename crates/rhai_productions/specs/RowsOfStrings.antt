@@ -1,12 +1,12 @@
 -- Worked rows of interpolated strings and jumps: lines, their written forms and trees, and what is refused.
 use Rattle.rhai_grammar.specs.Causes.{Refusal, refusal}
 use Rattle.rhai_grammar.specs.Causes as cause
-use Rattle.rhai_grammar.specs.Contexts.{Context}
+use Rattle.rhai_grammar.specs.Contexts.{Context, has_single_blocks}
 use Rattle.rhai_grammar.specs.Delivered.{Ends, Point, Then, Tokens, code, item, past, text}
 use Rattle.rhai_grammar.specs.RowStreams.{between, depth, taken_from, unread}
 use Rattle.rhai_grammar.specs.Trees.{variable_of}
 use Rattle.rhai_lower.specs.Lexemes.{Faulty, Integer, Interpolated, Lexeme, Name, Sign, String, UnexpectedInput}
-use Rattle.rhai_lower.specs.Nodes.{Node}
+use Rattle.rhai_lower.specs.Nodes.{Node, no_nodes, no_statements, one_node, one_statement}
 use Rattle.rhai_lower.specs.Nodes as node
 use Rattle.rhai_lower.specs.Positions.{place}
 use Rattle.rhai_lower.specs.declared.token.Token.TheVariants as token
@@ -16,11 +16,13 @@ use Rattle.rhai_productions.specs.Promised.{Unwritten, Written, tree_of}
 use Rattle.rhai_productions.specs.RowsOfStatements.{integer}
 use Rattle.rhai_productions.specs.WorkedForms.{Fits, IsTrue, Misses, alone, ends, formula, joins, jump_right}
 use Rattle.rhai_productions.specs.WorkedForms.{name_alone, named, number, run, script, whole}
+use Rattle.rhai_productions.specs.WorkedFunctions.{interpolated, last_segment}
 use Rattle.rhai_productions.specs.WorkedOpenForms.{open_operand, open_part, open_right, open_run, open_whole, too_deep}
+use Rattle.rhai_productions.specs.WorkedOpenStatements.{deep_jump, open_jump, open_next, open_return}
 use Rattle.rhai_productions.specs.WorkedStatements.{evaluates, first_of, giving, giving_nothing, last_inside, many}
 use Rattle.rhai_productions.specs.WorkedStatements.{returns}
 use Rattle.rhai_productions.specs.WorkedTokens.{closing_brace, end_mark, otherwise}
-use Rattle.std.specs.Prelude.{List, None, ℕ, [], codes, false, pos, reverse, ◌++◌, ◌+◌, ◌∷◌, ◌≡◌}
+use Rattle.std.specs.Prelude.{List, None, ℕ, [], codes, false, not, pos, reverse, ◌++◌, ◌+◌, ◌∷◌, ◌≡◌}
 
 -- ---- interpolated strings
 

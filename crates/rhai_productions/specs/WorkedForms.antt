@@ -12,7 +12,6 @@ use Rattle.rhai_grammar.specs.Prelude.{in_block, level_up, made_block, member_li
 use Rattle.rhai_grammar.specs.Prelude.{place, position_of, property, qualified, role_after, signed, spot_after_bracket, spot_after_dot}
 use Rattle.rhai_grammar.specs.Prelude.{spot_after_operand, unit, with_node}
 use Rattle.rhai_grammar.specs.Literals.{item_role}
-use Rattle.rhai_grammar.specs.declared.filter.ExprFilter.{ExprFilter}
 use Rattle.rhai_grammar.specs.declared.role.Beginning.TheVariants as begin
 use Rattle.rhai_grammar.specs.declared.role.ItemRole.{ItemRole}
 use Rattle.rhai_grammar.specs.declared.role.ItemRole.TheVariants as item
@@ -72,7 +71,7 @@ fails p false e f = f
 -- ---- operands
 
 -- no further link
-abbrev pub unlinked : {w : Live} {spot : LinkSpot} {filter : ExprFilter} {o : Option (ℕ × Bool)} → After filter o
+abbrev pub unlinked : {w : Live} {spot : LinkSpot} {o : Option (ℕ × Bool)} → After spot.settings.filter o
     → Form production (Links w spot) spot.before
 unlinked {w} {spot} t = form (choose t.token (place 1 t.column) (t.no_link w spot))
 
