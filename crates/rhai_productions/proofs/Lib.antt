@@ -74,3 +74,5 @@ pub mod StringRowLemmas
 pub mod ConstructRowLemmas
 pub mod ModuleRowLemmas
 pub mod FunctionRowLemmas
+pub mod ClosureRowLemmas
+pub mod EntryRowLemmas

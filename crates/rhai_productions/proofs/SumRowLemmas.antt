@@ -44,7 +44,7 @@ call_row = record {
 
 pub ranged_row : RangedRow
 unfolding one_more number
-ranged_row = record { tree_is = λ limit. refl; fits = fits (assumption) refl }
+ranged_row = record { tree_is = refl; fits = fits (assumption) refl }
 
 pub sized_row : SizedRow
 unfolding one_more number

@@ -55,3 +55,5 @@ pub mod RowsOfStrings
 pub mod RowsOfConstructs
 pub mod RowsOfModules
 pub mod RowsOfFunctions
+pub mod RowsOfClosures
+pub mod RowsOfEntries

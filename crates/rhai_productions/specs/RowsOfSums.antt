@@ -3,25 +3,25 @@ use Rattle.rhai_grammar.specs.Causes.{Refusal, refusal}
 use Rattle.rhai_grammar.specs.Causes as cause
 use Rattle.rhai_grammar.specs.Contexts.{Context}
 use Rattle.rhai_grammar.specs.Delivered.{code}
-use Rattle.rhai_grammar.specs.Literals.{too_many_items}
+use Rattle.rhai_grammar.specs.Literals.{item_role, too_many_items}
 use Rattle.rhai_grammar.specs.Operators.{operator_call}
+use Rattle.rhai_grammar.specs.RowStreams.{between, depth, unread}
 use Rattle.rhai_grammar.specs.Trees.{function_called, named_by, variable_of}
 use Rattle.rhai_lower.specs.Lexemes.{Integer, Lexeme, Name, Sign}
 use Rattle.rhai_lower.specs.Nodes.{Node}
 use Rattle.rhai_lower.specs.Nodes as node
 use Rattle.rhai_lower.specs.Positions.{place}
 use Rattle.rhai_lower.specs.declared.token.Token.TheVariants as token
-use Rattle.rhai_productions.specs.Derived.{choose, never_here, open_form, part_here}
+use Rattle.rhai_productions.specs.Derived.{choose, never_here, open_form}
 use Rattle.rhai_productions.specs.Promised.{Unwritten, Written, tree_of}
-use Rattle.rhai_productions.specs.WorkedForms.{Fits, Misses, alone, called, ends, formula, joins, last_argument}
-use Rattle.rhai_productions.specs.WorkedForms.{last_element, leaves, listed, minus, number, right, right_of_range, run}
-use Rattle.rhai_productions.specs.WorkedForms.{unit_before, whole, zero_before}
+use Rattle.rhai_productions.specs.WorkedForms.{Fits, IsItem, Misses, alone, called, ends, formula, joins}
+use Rattle.rhai_productions.specs.WorkedForms.{last_argument, last_element, leaves, listed, minus, number, right}
+use Rattle.rhai_productions.specs.WorkedForms.{right_of_range, run, unit_before, whole, zero_before}
 use Rattle.rhai_productions.specs.WorkedOpenForms.{deep_arguments, deep_right, open_argument, open_array, open_call}
-use Rattle.rhai_productions.specs.WorkedOpenForms.{open_items, open_operand, open_rest, open_right, open_run}
-use Rattle.rhai_productions.specs.WorkedOpenForms.{open_tighter, open_whole, too_deep}
+use Rattle.rhai_productions.specs.WorkedOpenForms.{open_items, open_operand, open_part, open_rest, open_right}
+use Rattle.rhai_productions.specs.WorkedOpenForms.{open_run, open_tighter, open_whole, too_deep}
 use Rattle.rhai_productions.specs.WorkedTokens.{closing_bracket, closing_paren, comma, end_mark, plus, times, to}
 use Rattle.std.specs.Prelude.{List, None, ℕ, [], codes, false, map, pos, ◌++◌, ◌+◌, ◌∷◌, ◌≡◌}
-use Rattle.rhai_grammar.specs.RowStreams.{between, depth, unread}
 
 -- ---- sums and products
 
@@ -41,9 +41,9 @@ sum_tree = operator_call (Sign token.Plus) (place 1 3) (node.integer (pos 1) (pl
     (operator_call (Sign token.Multiply) (place 1 7) (node.integer (pos 2) (place 1 5))
     (node.integer (pos 3) (place 1 9)))
 
--- too deep for the product
-abbrev pub sum_deep : Unwritten (formula (depth 2))
-sum_deep =
+-- up to the raise for `*`, which is missed
+abbrev pub sum_deep : (c : Context) → Unwritten (formula c)
+sum_deep c =
     open_whole (open_run (number 1 1 (plus 3)) (open_tighter (plus 3) tt (right (number 2 5 (times 7))) (times 7)
     (deep_right (times 7) tt (right (number 3 9 (end_mark 10))) (end_mark 10))))
 
@@ -52,7 +52,8 @@ sum_deep =
 pub record SumRow : Type 0 where
   pub tree_is : (c : Context) → tree_of (formula c) (sum_form c) ≡ sum_tree
   pub fits : Fits (formula (depth 3)) (sum_form (depth 3)) (unread sum_tokens 10) (between sum_tokens [] 10)
-  pub deep : Misses (formula (depth 2)) sum_deep (unread sum_tokens 10) (refusal cause.ExprTooDeep (place 1 5)) code
+  pub deep : Misses (formula (depth 2)) (sum_deep (depth 2)) (unread sum_tokens 10)
+      (refusal cause.ExprTooDeep (place 1 5)) code
       (between sum_tokens [] 10)
 
 -- `1 + 2` fits under the depth limit 2. Under the limit 1 it misses the raise after the 2, which is refused at the 1.
@@ -68,14 +69,15 @@ abbrev pub pair_tree : Node
 pair_tree =
     operator_call (Sign token.Plus) (place 1 3) (node.integer (pos 1) (place 1 1)) (node.integer (pos 2) (place 1 5))
 
-abbrev pub pair_deep : Unwritten (formula (depth 1))
-pair_deep =
+abbrev pub pair_deep : (c : Context) → Unwritten (formula c)
+pair_deep c =
     open_whole (open_run (number 1 1 (plus 3)) (deep_right (plus 3) tt (right (number 2 5 (end_mark 6))) (end_mark 6)))
 
 pub record PairRow : Type 0 where
   pub tree_is : (c : Context) → tree_of (formula c) (pair_form c) ≡ pair_tree
   pub fits : Fits (formula (depth 2)) (pair_form (depth 2)) (unread pair_tokens 6) (between pair_tokens [] 6)
-  pub deep : Misses (formula (depth 1)) pair_deep (unread pair_tokens 6) (refusal cause.ExprTooDeep (place 1 1)) code
+  pub deep : Misses (formula (depth 1)) (pair_deep (depth 1)) (unread pair_tokens 6)
+      (refusal cause.ExprTooDeep (place 1 1)) code
       (between pair_tokens [] 6)
 
 -- `1 + 2 + 3` is too deep under the limit 2: each operator raises the level, and the second raise is refused at the
@@ -90,15 +92,16 @@ flat_form c =
     whole (run (number 1 1 (plus 3)) (joins (plus 3) tt (right (number 2 5 (plus 7))) (leaves (plus 7) tt) (joins
     (plus 7) tt (right (number 3 9 (end_mark 10))) (ends (end_mark 10)) (ends (end_mark 10)))))
 
-abbrev pub flat_deep : Unwritten (formula (depth 2))
-flat_deep =
+abbrev pub flat_deep : (c : Context) → Unwritten (formula c)
+flat_deep c =
     open_whole (open_run (number 1 1 (plus 3)) (open_rest (plus 3) tt (right (number 2 5 (plus 7)))
     (leaves (plus 7) tt) (deep_right (plus 7) tt (right (number 3 9 (end_mark 10))) (end_mark 10))))
 
 pub record FlatRow : Type 0 where
   pub tree_is : (c : Context) → tree_of (formula c) (flat_form c)
       ≡ operator_call (Sign token.Plus) (place 1 7) pair_tree (node.integer (pos 3) (place 1 9))
-  pub deep : Misses (formula (depth 2)) flat_deep (unread flat_tokens 10) (refusal cause.ExprTooDeep (place 1 3)) code
+  pub deep : Misses (formula (depth 2)) (flat_deep (depth 2)) (unread flat_tokens 10)
+      (refusal cause.ExprTooDeep (place 1 3)) code
       (between flat_tokens [] 10)
 
 -- `1 + 2 + 3 * 4` fits under the depth limit 4, one more than `1 + 2 * 3`: the product is on the right of the second
@@ -118,8 +121,8 @@ late_product_tree =
     operator_call (Sign token.Multiply) (place 1 11) (node.integer (pos 3) (place 1 9))
     (node.integer (pos 4) (place 1 13))
 
-abbrev pub late_deep : Unwritten (formula (depth 3))
-late_deep =
+abbrev pub late_deep : (c : Context) → Unwritten (formula c)
+late_deep c =
     open_whole (open_run (number 1 1 (plus 3)) (open_rest (plus 3) tt (right (number 2 5 (plus 7)))
     (leaves (plus 7) tt) (open_tighter (plus 7) tt (right (number 3 9 (times 11))) (times 11) (deep_right (times 11) tt
     (right (number 4 13 (end_mark 14))) (end_mark 14)))))
@@ -128,7 +131,8 @@ pub record LateRow : Type 0 where
   pub tree_is : (c : Context) → tree_of (formula c) (late_form c)
       ≡ operator_call (Sign token.Plus) (place 1 7) pair_tree late_product_tree
   pub fits : Fits (formula (depth 4)) (late_form (depth 4)) (unread late_tokens 14) (between late_tokens [] 14)
-  pub deep : Misses (formula (depth 3)) late_deep (unread late_tokens 14) (refusal cause.ExprTooDeep (place 1 9)) code
+  pub deep : Misses (formula (depth 3)) (late_deep (depth 3)) (unread late_tokens 14)
+      (refusal cause.ExprTooDeep (place 1 9)) code
       (between late_tokens [] 14)
 
 -- ---- ranges
@@ -172,8 +176,7 @@ ended_tokens = (Integer (pos 5), 1) ∷ (Sign token.ExclusiveRange, 2) ∷ []
 abbrev pub ended_range : (c : Context) → Unwritten (formula c)
 ended_range c =
     open_whole (open_run (number 5 1 (to 2)) (open_right (to 2) tt (open_form (choose (Sign token.EOF) (place 1 4)
-    (part_here (open_form (choose (Sign token.EOF) (place 1 4) (part_here (open_form (choose (Sign token.EOF)
-    (place 1 4) never_here))))))))))
+    (open_part (choose (Sign token.EOF) (place 1 4) (open_part (choose (Sign token.EOF) (place 1 4) never_here))))))))
 
 pub record EndedRow : Type 0 where
   pub missed : Misses (formula (depth 0)) (ended_range (depth 0)) (unread ended_tokens 4)
@@ -196,22 +199,22 @@ abbrev pub call_form : (c : Context) → Written (formula c)
 call_form c =
     whole (alone (called (codes "f") 1 2 (last_argument (alone (number 1 3) (closing_paren 4)) 4)) (end_mark 5))
 
-abbrev pub call_argument_deep : Unwritten (formula (depth 2))
-call_argument_deep =
+abbrev pub call_argument_deep : (c : Context) → Unwritten (formula c)
+call_argument_deep c =
     open_whole (open_operand (Name (codes "f")) 1 (open_call (codes "f") 1 2 (open_argument (too_deep (Integer (pos 1))
     3))))
 
-abbrev pub call_list_deep : Unwritten (formula (depth 1))
-call_list_deep = open_whole (open_operand (Name (codes "f")) 1 (open_call (codes "f") 1 2 deep_arguments))
+abbrev pub call_list_deep : (c : Context) → Unwritten (formula c)
+call_list_deep c = open_whole (open_operand (Name (codes "f")) 1 (open_call (codes "f") 1 2 deep_arguments))
 
 pub record CallRow : Type 0 where
   pub tree_is : (c : Context) → tree_of (formula c) (call_form c)
       ≡ node.call (function_called (named_by (variable_of None (codes "f") (place 1 1))) false 1)
       (node.one_node (node.integer (pos 1) (place 1 3)) node.no_nodes) (place 1 1)
   pub fits : Fits (formula (depth 3)) (call_form (depth 3)) (unread call_tokens 5) (between call_tokens [] 5)
-  pub argument_deep : Misses (formula (depth 2)) call_argument_deep (unread call_tokens 5)
+  pub argument_deep : Misses (formula (depth 2)) (call_argument_deep (depth 2)) (unread call_tokens 5)
       (refusal cause.ExprTooDeep (place 1 3)) code (between call_begun call_rest 5)
-  pub list_deep : Misses (formula (depth 1)) call_list_deep (unread call_tokens 5)
+  pub list_deep : Misses (formula (depth 1)) (call_list_deep (depth 1)) (unread call_tokens 5)
       (refusal cause.ExprTooDeep (place 1 1)) code (between call_begun call_rest 5)
 
 -- `[5..]`: the unit after the range operator is omitted, and has the position of the `]`.
@@ -220,19 +223,20 @@ ranged_tokens =
     (Sign token.LeftBracket, 1) ∷ (Integer (pos 5), 2) ∷ (Sign token.ExclusiveRange, 3) ∷ (Sign token.RightBracket, 5)
     ∷ []
 
-abbrev pub ranged_form : (limit : ℕ) → Written (formula (depth limit))
-ranged_form limit =
+-- under a context in which an array may have an item
+abbrev pub ranged_form : (c : Context) → IsItem (item_role c.sizes.array 0 (Integer (pos 5))) → Written (formula c)
+ranged_form c so =
     whole (alone (listed 1 (last_element (run (number 5 2 (to 3)) (joins (to 3) tt (unit_before 5)
-    (ends (closing_bracket 5)) (ends (closing_bracket 5)))) tt 5)) (end_mark 6))
+    (ends (closing_bracket 5)) (ends (closing_bracket 5)))) so 5)) (end_mark 6))
 
 abbrev pub ranged_tree : Node
 ranged_tree =
     operator_call (Sign token.ExclusiveRange) (place 1 3) (node.integer (pos 5) (place 1 2)) (node.unit (place 1 5))
 
 pub record RangedRow : Type 0 where
-  pub tree_is : (limit : ℕ) → tree_of (formula (depth limit)) (ranged_form limit)
+  pub tree_is : tree_of (formula (depth 64)) (ranged_form (depth 64) tt)
       ≡ node.array (node.one_node ranged_tree node.no_nodes) (place 1 1)
-  pub fits : Fits (formula (depth 64)) (ranged_form 64) (unread ranged_tokens 6) (between ranged_tokens [] 6)
+  pub fits : Fits (formula (depth 64)) (ranged_form (depth 64) tt) (unread ranged_tokens 6) (between ranged_tokens [] 6)
 
 -- `[1, 2, 3]`: where an array has at most two items, the third is one too many.
 abbrev pub sized_begun : List (Lexeme × ℕ)

@@ -191,12 +191,12 @@ abbrev pub capturing : {h : Goal} {p : Production (Val h)} {x : Val h} (c : Cont
 capturing c w [] f = f
 capturing c w (u ∷ us) f = captures (capturing c w us f)
 
--- what a closure does, with the number of closures that ended before it, and what it captures
-abbrev pub ended_by : {c : Context} {w : Live} {at : Position} {by : Bars} {names : List Text} {f : node.Statement}
+-- the rest of a closure of these parameters: what it captures, how many closures had ended before it, and what it does
+abbrev ended_by : {c : Context} {w : Live} {at : Position} {by : Bars} {f : node.Statement} (names : List Text)
     (us : List Use) (n : ℕ)
     → Form production (goal.ClosureBody (level_up (in_closure c w)) (parameters_live names)) f
     → Filled production (goal.Closure c w at by) (P.closure_of c w at names) (closure_node at n us names w)
-ended_by {c} {w} us n f = must (apart _ us n f (capturing c w us (knows (adds given))))
+ended_by {c} {w} names us n f = must (apart _ us n f (capturing c w us (knows (adds given))))
 
 -- the statement of a closure; or nothing, before the end mark
 abbrev pub doing : {c : Context} {w : Live} {f : node.Statement × Live} → Form production (Statement c w) f
@@ -208,22 +208,25 @@ abbrev pub doing_nothing : {c : Context} {w : Live} (end : ℕ)
 doing_nothing end = form (if_so (here (Sign token.EOF) (place 1 end) given))
 
 -- a closure without parameters, where closures are operands, and its links
-abbrev pub bars_then : {c : Context} {w : Live} {x : Node} {ls : List Link} (at : ℕ)
-    → IsTrue (may_be_closure c bars.Pair)
-    → Filled production (goal.Closure c w (place 1 at) bars.Pair) (P.closure_of c w (place 1 at) []) x
-    → Form production (Links w (spot_after_operand c x)) ls → Form production (Operand c w) (chained x ls)
-bars_then {c} at so f links =
+abbrev pub bars_then : {c : Context} {w : Live} {f : node.Statement} {ls : List Link} (at : ℕ)
+    → IsTrue (may_be_closure c bars.Pair) → (us : List Use) (n : ℕ)
+    → Form production (goal.ClosureBody (level_up (in_closure c w)) (parameters_live [])) f
+    → Form production (Links w (spot_after_operand c (closure_node (place 1 at) n us [] w))) ls
+    → Form production (Operand c w) (chained (closure_node (place 1 at) n us [] w) ls)
+bars_then {c} at so us n f links =
     form (choose (Sign token.Or) (place 1 at) (linked (form (choose (Sign token.Or) (place 1 at) (
     holds _ (may_be_closure c bars.Pair) so (this (Sign token.Or) (place 1 at) (
-    part _ (form (knows f)) given))))) links))
+    part _ (form (knows (ended_by [] us n f))) given))))) links))
 
 -- the same with one parameter
-abbrev pub parameter_then : {c : Context} {w : Live} {x : Node} {ls : List Link} (at : ℕ) (name : Text)
-    (column closing : ℕ) → IsTrue (may_be_closure c bars.List)
-    → Filled production (goal.Closure c w (place 1 at) bars.List) (P.closure_of c w (place 1 at) (name ∷ [])) x
-    → Form production (Links w (spot_after_operand c x)) ls → Form production (Operand c w) (chained x ls)
-parameter_then {c} at name column closing so f links =
+abbrev pub parameter_then : {c : Context} {w : Live} {f : node.Statement} {ls : List Link} (at : ℕ) (name : Text)
+    (column closing : ℕ) → IsTrue (may_be_closure c bars.List) → (us : List Use) (n : ℕ)
+    → Form production (goal.ClosureBody (level_up (in_closure c w)) (parameters_live (name ∷ []))) f
+    → Form production (Links w (spot_after_operand c (closure_node (place 1 at) n us (name ∷ []) w))) ls
+    → Form production (Operand c w) (chained (closure_node (place 1 at) n us (name ∷ []) w) ls)
+parameter_then {c} at name column closing so us n f links =
     form (choose (Sign token.Pipe) (place 1 at) (linked (form (choose (Sign token.Pipe) (place 1 at) (
     holds _ (may_be_closure c bars.List) so (this (Sign token.Pipe) (place 1 at) (part _ (form (knows (part _ (form (
     choose (Name name) (place 1 column) (this (Name name) (place 1 column) (must (
-    choose (Sign token.Pipe) (place 1 closing) (this (Sign token.Pipe) (place 1 closing) given)))))) f))) given))))) links))
+    choose (Sign token.Pipe) (place 1 closing) (this (Sign token.Pipe) (place 1 closing) given)))))) (
+    ended_by (name ∷ []) us n f)))) given))))) links))

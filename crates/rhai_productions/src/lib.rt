@@ -5,3 +5,4 @@ pub mod form_laws;
 pub mod laws;
 pub mod lines;
 pub mod rows;
+pub mod entry_rows;

@@ -1,6 +1,8 @@
 //! Worked rows of forms, as contracts of functions that do nothing.
 
 ghost use Rattle.rhai_productions.specs.RowsOfChains.{CaptureRow, GroupedRow, JoinedRow, QuestionedRow};
+ghost use Rattle.rhai_productions.specs.RowsOfClosures.{CaseRow, ClosureSumRow, DotRow, EmptyBodyRow, FunctionNameRow};
+ghost use Rattle.rhai_productions.specs.RowsOfClosures.{MemberRow, NestedRow, SecondFunctionRow, SlotRow};
 ghost use Rattle.rhai_productions.specs.RowsOfConstructs.{ArmRow, BreakRow, DefaultRow, IntegerRow, LoopRow, PipeRow};
 ghost use Rattle.rhai_productions.specs.RowsOfFunctions.{CommentRow, FunctionRow};
 ghost use Rattle.rhai_productions.specs.RowsOfModules.{ExportedRow, TwiceRow};
@@ -221,4 +223,59 @@ pub fn function_row()
 #[tactic(auto, using(crate::proofs::FunctionRowLemmas::comment_row))]
 pub fn comment_row()
     ensures { CommentRow }
+{}
+
+/// `|| x in y` captures `x`, and then `y`.
+#[tactic(auto, using(crate::proofs::ClosureRowLemmas::member_row))]
+pub fn member_row()
+    ensures { MemberRow }
+{}
+
+/// `|x| x + y` has the parameters `y` and `x`.
+#[tactic(auto, using(crate::proofs::ClosureRowLemmas::closure_sum_row))]
+pub fn closure_sum_row()
+    ensures { ClosureSumRow }
+{}
+
+/// `let x = 1; || x` shares the slot of `x`, which has number 1.
+#[tactic(auto, using(crate::proofs::ClosureRowLemmas::slot_row))]
+pub fn slot_row()
+    ensures { SlotRow }
+{}
+
+/// `|| || x` gives two closures, each with the parameter `x`.
+#[tactic(auto, using(crate::proofs::ClosureRowLemmas::nested_row))]
+pub fn nested_row()
+    ensures { NestedRow }
+{}
+
+/// `||` has an empty body. It is refused where no function may begin, and `|| x`
+/// where variables have to be known.
+#[tactic(auto, using(crate::proofs::ClosureRowLemmas::empty_body_row))]
+pub fn empty_body_row()
+    ensures { EmptyBodyRow }
+{}
+
+/// `|| f` captures nothing after a function `f`.
+#[tactic(auto, using(crate::proofs::ClosureRowLemmas::function_name_row))]
+pub fn function_name_row()
+    ensures { FunctionNameRow }
+{}
+
+/// In `|| {1}.x` the dot belongs to the closure.
+#[tactic(auto, using(crate::proofs::ClosureRowLemmas::dot_row))]
+pub fn dot_row()
+    ensures { DotRow }
+{}
+
+/// In `switch 1 { || 1 | 2 => 3 }` the case is the closure of `1 | 2`.
+#[tactic(auto, using(crate::proofs::ClosureRowLemmas::case_row))]
+pub fn case_row()
+    ensures { CaseRow }
+{}
+
+/// `fn f() { || 1 }` is refused at its `||` where there may be one function.
+#[tactic(auto, using(crate::proofs::ClosureRowLemmas::second_function_row))]
+pub fn second_function_row()
+    ensures { SecondFunctionRow }
 {}
