@@ -128,9 +128,11 @@ slot_tokens = let_tokens 1 (codes "x") 5 7 1 9 10 ++ ((Sign token.Or, 12) ∷ (N
 
 -- the closure alone, wherever it stands
 abbrev pub slot_closure : (c : Context) (w : Live) → IsTrue (may_be_closure c bars.Pair) → Written (Expression c w)
-slot_closure c w so =
-    (_, run (bars_then 12 so (names_at ((codes "x", 15) ∷ [])) 0 (doing (evaluates
-    (name_alone (codes "x") 15 (end_mark 16)) tt)) (unlinked (end_mark 16))) (ends (end_mark 16)))
+slot_closure c w so = (
+  _,
+  run (bars_then 12 so (names_at ((codes "x", 15) ∷ [])) 0 (doing (evaluates
+      (name_alone (codes "x") 15 (end_mark 16)) tt)) (unlinked (end_mark 16))) (ends (end_mark 16)),
+)
 
 abbrev pub slot_form : Written (script with_closures)
 slot_form =
