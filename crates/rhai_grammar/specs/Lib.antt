@@ -37,8 +37,8 @@ pub mod Verdicts
 pub mod Spots
 pub mod Shapes
 pub mod Laws
-pub mod Rows
-pub mod RowsOfEntries
+pub mod RowStreams
+pub mod EntryContexts
 pub mod SlotLaws
 pub mod TreeNumbers
 pub mod NumberedLibraries

@@ -74,3 +74,13 @@ pub mod LinesOfSwitches
 pub mod LinesOfModules
 pub mod LinesOfFunctions
 pub mod LinesOfClosures
+pub mod Evaluation
+pub mod SumRowLemmas
+pub mod ChainRowLemmas
+pub mod StatementRowLemmas
+pub mod StringRowLemmas
+pub mod ConstructRowLemmas
+pub mod ModuleRowLemmas
+pub mod FunctionRowLemmas
+pub mod ClosureRowLemmas
+pub mod EntryRowLemmas

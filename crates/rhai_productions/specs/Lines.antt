@@ -11,10 +11,10 @@ use Rattle.rhai_grammar.specs.Contexts.{Context, nothing_known, nothing_live}
 use Rattle.rhai_grammar.specs.Delivered.{Ends, Mode, Point}
 use Rattle.rhai_grammar.specs.Demands.{Met, Missed}
 use Rattle.rhai_grammar.specs.Libraries.{Ended, Library}
-use Rattle.rhai_grammar.specs.Rows.{unread}
-use Rattle.rhai_grammar.specs.RowsOfEntries.{any_functions}
 use Rattle.rhai_grammar.specs.Trees.{function_called}
 use Rattle.rhai_grammar.specs.declared.filter.ExprFilter.TheVariants.{All}
+use Rattle.rhai_grammar.specs.EntryContexts.{any_functions}
+use Rattle.rhai_grammar.specs.RowStreams.{unread}
 use Rattle.rhai_grammar.specs.Goals.{Goal, Whole, Script}
 use Rattle.rhai_grammar.specs.Promises.{Written, written, tree_of, Unwritten, unwritten}
 

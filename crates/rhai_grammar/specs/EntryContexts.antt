@@ -1,9 +1,7 @@
--- What a new engine's settings are for its two kinds of entry points, as worked rows have them.
+-- What a new engine hands over at its two entries, in a fresh state.
 use Rattle.std.specs.Prelude.{◌-◌, ◌^◌, ℕ}
 use Rattle.rhai_grammar.specs.Contexts.{Context, nothing_known}
 use Rattle.rhai_grammar.specs.declared.filter.ExprFilter.TheVariants.{All}
-
--- ---- the two kinds of entry points
 
 -- A new engine, in a fresh state, with these flags and options in the settings, this depth limit, and at most so many
 -- functions: all options but strict variables, literals of any size, and a depth of 32 in functions.

@@ -1,0 +1,353 @@
+-- Parts of written forms that worked rows have in common: operands, runs and lists. Each token is on the first line, at
+-- its column. Where a test of tokens or settings has to hold, `tt` says so: it is evaluated.
+use Rattle.std.specs.Prelude.{ℕ, Bool, true, false, not, Option, Some, None, List, [], pos, if◌then◌else◌}
+use Rattle.rhai_lower.specs.Nodes as node
+use Rattle.rhai_lower.specs.declared.token.Token.TheVariants as token
+use Rattle.rhai_grammar.specs.Contexts.{nothing_live}
+use Rattle.rhai_grammar.specs.Delivered.{Mode, Point}
+use Rattle.rhai_grammar.specs.Demands.{Met, Missed}
+use Rattle.rhai_grammar.specs.Prelude.{Context, Integer, Link, LinkSpot, Live, Lexeme, Name, Node, Nodes, Position}
+use Rattle.rhai_grammar.specs.Prelude.{Refusal, Sign, String, Text, array, below_global, block_value, bracket_link, call_tree, chained, excludes_use}
+use Rattle.rhai_grammar.specs.Prelude.{in_block, level_up, made_block, member_link, name_tree, node_count, operand_start, operator_tree}
+use Rattle.rhai_grammar.specs.Prelude.{place, position_of, property, qualified, role_after, signed, spot_after_bracket, spot_after_dot}
+use Rattle.rhai_grammar.specs.Prelude.{spot_after_operand, unit, with_node}
+use Rattle.rhai_grammar.specs.Literals.{item_role}
+use Rattle.rhai_grammar.specs.declared.role.Beginning.TheVariants as begin
+use Rattle.rhai_grammar.specs.declared.role.ItemRole.{ItemRole}
+use Rattle.rhai_grammar.specs.declared.role.ItemRole.TheVariants as item
+use Rattle.rhai_grammar.specs.declared.role.OperandRole.{OperandRole}
+use Rattle.rhai_grammar.specs.declared.role.OperandRole.TheVariants.{AfterCoalesce, AfterRange, Elsewhere}
+use Rattle.rhai_grammar.specs.declared.role.OperandStart.{OperandStart}
+use Rattle.rhai_grammar.specs.declared.role.OperandStart.TheVariants as first
+use Rattle.rhai_grammar.specs.Goals as goal
+use Rattle.rhai_grammar.specs.Goals.{Goal, Val, Whole, Expression, Operand, RightOperand, Primary, Links, Script, Statement}
+use Rattle.rhai_grammar.specs.Goals.{NextOperator, BinaryOp}
+use Rattle.rhai_grammar.specs.Strengths.{continues}
+use Rattle.rhai_grammar.specs.Productions as S
+use Rattle.rhai_grammar.specs.Productions.{Production}
+use Rattle.rhai_grammar.specs.Forms.{Form, Filled, form, given, take, this, if_so, if_not, choose, here, must}
+use Rattle.rhai_grammar.specs.Forms.{uses, part}
+use Rattle.rhai_grammar.specs.Promises.{Unwritten, Written, unwritten, written}
+use Rattle.rhai_grammar.specs.Rules as P
+use Rattle.rhai_grammar.specs.Rules.{production}
+use Rattle.rhai_productions.specs.WorkedTokens.{After}
+
+-- ---- what rows say
+
+-- what is read where nothing is defined: one expression, or a script
+abbrev pub formula : Context → Goal
+formula c = Whole c nothing_live
+
+abbrev pub script : Context → Goal
+script c = Script c nothing_live
+
+-- A form of a goal is met along a stream, from a point to another.
+pub record Fits (g : Goal) (f : Written g) (start end : Point) : Type 0 where
+  pub met : Met (written g f) start end
+
+-- An open form misses its last demand, with this error, at a point.
+pub record Misses (g : Goal) (f : Unwritten g) (start : Point) (error : Refusal) (mode : Mode) (end : Point)
+    : Type 0
+  where
+    pub missed : Missed (unwritten g f) start error mode end
+
+-- ---- tests that hold
+
+abbrev pub IsTrue : Bool → Type 0
+IsTrue true = Unit {0}
+IsTrue false = ⊥
+
+-- the first of two ways, where a test holds
+abbrev pub holds : {h : Goal} {p : Production (Val h)} {x : Val h} (q : Production (Val h)) (b : Bool) → IsTrue b
+    → Filled production h p x → Filled production h (if b then p else q) x
+holds q true e f = f
+holds q false e f = absurd e
+
+-- the second of two ways, where a test fails
+abbrev pub fails : {h : Goal} {q : Production (Val h)} {x : Val h} (p : Production (Val h)) (b : Bool)
+    → IsTrue (not b) → Filled production h q x → Filled production h (if b then p else q) x
+fails p true e f = absurd e
+fails p false e f = f
+
+-- ---- operands
+
+-- no further link
+abbrev pub unlinked : {w : Live} {spot : LinkSpot} {o : Option (ℕ × Bool)} → After spot.settings.filter o
+    → Form production (Links w spot) spot.before
+unlinked {w} {spot} t = form (choose t.token (place 1 t.column) (t.no_link w spot))
+
+-- a primary that is not called, and its links
+abbrev pub linked : {c : Context} {w : Live} {x : Node} {ls : List Link} → Form production (Primary c w) x
+    → Form production (Links w (spot_after_operand c x)) ls
+    → Filled production (Operand c w) (P.operand_by c w begin.Value) (chained x ls)
+linked f links = part _ f (part _ (form (if_not (if_not given))) (part _ links (must given)))
+
+abbrev pub number : {c : Context} {w : Live} {o : Option (ℕ × Bool)} (n column : ℕ) → After c.filter o
+    → Form production (Operand c w) (node.integer (pos n) (place 1 column))
+number n column t =
+    form (choose (Integer (pos n)) (place 1 column) (linked (form (choose (Integer (pos n)) (place 1 column) (
+    this (Integer (pos n)) (place 1 column) given))) (unlinked t)))
+
+abbrev pub quoted : {c : Context} {w : Live} {o : Option (ℕ × Bool)} (text : Text) (column : ℕ) → After c.filter o
+    → Form production (Operand c w) (node.string text (place 1 column))
+quoted text column t =
+    form (choose (String text) (place 1 column) (linked (form (choose (String text) (place 1 column) (
+    this (String text) (place 1 column) given))) (unlinked t)))
+
+-- a name that is no path, before this token
+abbrev pub name_before : {c : Context} {w : Live} (name : Text) (column : ℕ) (l : Lexeme) (at : ℕ)
+    → Form production (Primary c w) (name_tree w.slots (excludes_use l) name (place 1 column))
+name_before name column l at =
+    form (choose (Name name) (place 1 column) (this (Name name) (place 1 column) (uses l (place 1 at) given)))
+
+abbrev pub named : {c : Context} {w : Live} {o : Option (ℕ × Bool)} (name : Text) (column : ℕ) (t : After c.filter o)
+    → Form production (Operand c w) (name_tree w.slots (excludes_use t.token) name (place 1 column))
+named name column t =
+    form (choose (Name name) (place 1 column) (linked (name_before name column t.token t.column) (unlinked t)))
+
+-- a name with links, of which the first begins with this token
+abbrev pub name_linked : {c : Context} {w : Live} {ls : List Link} (name : Text) (column : ℕ) (l : Lexeme) (at : ℕ)
+    → Form production (Links w (spot_after_operand c (name_tree w.slots (excludes_use l) name (place 1 column)))) ls
+    → Form production (Operand c w) (chained (name_tree w.slots (excludes_use l) name (place 1 column)) ls)
+name_linked name column l at links =
+    form (choose (Name name) (place 1 column) (linked (name_before name column l at) links))
+
+-- an operand after a `-`
+abbrev pub minus : {c : Context} {w : Live} {x : Node} (column : ℕ) → Form production (Operand (level_up c) w) x
+    → Form production (Operand c w) (signed (Sign token.Minus) (place 1 column) x)
+minus column f =
+    form (choose (Sign token.Minus) (place 1 column) (this (Sign token.Minus) (place 1 column) (must (
+    part _ f (must given)))))
+
+-- the omitted zero before `..`
+abbrev pub zero_before : {c : Context} {w : Live} (column : ℕ) → After c.filter (Some (140, false))
+    → Form production (Operand c w) (node.integer (pos 0) (place 1 column))
+zero_before column t =
+    form (choose (Sign token.ExclusiveRange) (place 1 column) (linked (form (
+    choose (Sign token.ExclusiveRange) (place 1 column) (
+    here (Sign token.ExclusiveRange) (place 1 column) given))) (unlinked t)))
+
+-- an expression in parentheses, and its links
+abbrev pub group : {c : Context} {w : Live} {x : Node} {ls : List Link} (opening : ℕ)
+    → Form production (Expression (level_up c) w) x → (closing : ℕ)
+    → Form production (Links w (spot_after_operand c x)) ls → Form production (Operand c w) (chained x ls)
+group opening f closing links =
+    form (choose (Sign token.LeftParen) (place 1 opening) (linked (form (
+    choose (Sign token.LeftParen) (place 1 opening) (this (Sign token.LeftParen) (place 1 opening) (must (
+    part _ f (take (Sign token.RightParen) (place 1 closing) given)))))) links))
+
+-- ---- runs
+
+-- no operator follows
+abbrev pub ends : {c : Context} {w : Live} {at : Position} {parent : ℕ} {x : Node} → After c.filter None
+    → Form production (BinaryOp c w at parent x) x
+ends t = form (part None (form (choose t.token (place 1 t.column) t.operator)) given)
+
+-- an operator follows that binds too weakly to go on with this run
+abbrev pub leaves : {c : Context} {w : Live} {at : Position} {parent : ℕ} {x : Node} {op : ℕ × Bool}
+    (t : After c.filter (Some op)) → IsTrue (not (continues parent op.0 op.1)) → Form production (BinaryOp c w at parent x) x
+leaves {parent = parent} {op = op} t so =
+    form (part _ (form (choose t.token (place 1 t.column) t.operator)) (
+    fails _ (continues parent op.0 op.1) so given))
+
+-- the first token of an operand, and of an expression
+abbrev pub front : {c : Context} {w : Live} {x : Node} → Form production (Operand c w) x → Lexeme × Position
+front (form (choose l at f)) = (l, at)
+
+abbrev pub start : {c : Context} {w : Live} {x : Node} → Form production (Expression c w) x → Lexeme × Position
+start (form (here l at f)) = (l, at)
+
+-- what follows the operand before the rest of a run
+abbrev pub next_of : {c : Context} {w : Live} {at : Position} {parent : ℕ} {x y : Node}
+    → Form production (BinaryOp c w at parent x) y
+    → (next : Option (ℕ × Bool)) × Form production (NextOperator c.filter) next
+next_of (form (part next f rest)) = (next, f)
+
+-- An operator goes on with a run: its right operand, what groups more tightly with that, and the rest of the run.
+abbrev pub joins : {c : Context} {w : Live} {at : Position} {parent : ℕ} {x y z r : Node} {op : ℕ × Bool}
+    (t : After c.filter (Some op)) → IsTrue (continues parent op.0 op.1)
+    → Form production (RightOperand c w (role_after t.token)) y
+    → Form production (BinaryOp (level_up c) w (position_of y) op.0 y) r
+    → Form production (BinaryOp (level_up c) w (place 1 t.column) parent
+    (operator_tree t.token (place 1 t.column) x r)) z
+    → Form production (BinaryOp c w at parent x) z
+joins {parent = parent} {op = op} t so y r z =
+    form (part _ (form (choose t.token (place 1 t.column) t.operator)) (
+    holds _ (continues parent op.0 op.1) so (this t.token (place 1 t.column) (
+    part _ y (part _ (next_of r).1 (must (part _ r (must (must (part _ z given))))))))))
+
+-- an operand on the right of an operator that is no range and no `??`
+abbrev pub right : {c : Context} {w : Live} {x : Node} → Form production (Operand c w) x
+    → Form production (RightOperand c w Elsewhere) x
+right f = form (choose (front f).0 (front f).1 (part _ f given))
+
+abbrev pub IsWritten : OperandStart → Type 0
+IsWritten first.Written = Unit {0}
+IsWritten _ = ⊥
+
+abbrev operand_there : {c : Context} {w : Live} {place : OperandRole} {x : Node} (start : OperandStart)
+    → IsWritten start → Filled production (RightOperand c w place) (P.right_by c w first.Written) x
+    → Filled production (RightOperand c w place) (P.right_by c w start) x
+operand_there first.Written so f = f
+operand_there first.Omitted so f = absurd so
+operand_there first.Jump so f = absurd so
+
+-- the same on the right of a range
+abbrev pub right_of_range : {c : Context} {w : Live} {x : Node} (f : Form production (Operand c w) x)
+    → IsWritten (operand_start AfterRange (front f).0) → Form production (RightOperand c w AfterRange) x
+right_of_range f so =
+    form (choose (front f).0 (front f).1 (operand_there (operand_start AfterRange (front f).0) so (part _ f given)))
+
+abbrev pub IsJump : OperandStart → Type 0
+IsJump first.Jump = Unit {0}
+IsJump _ = ⊥
+
+abbrev jump_there : {c : Context} {w : Live} {place : OperandRole} {x : Node} (start : OperandStart) → IsJump start
+    → Filled production (RightOperand c w place) (P.right_by c w first.Jump) x
+    → Filled production (RightOperand c w place) (P.right_by c w start) x
+jump_there first.Jump so f = f
+jump_there first.Omitted so f = absurd so
+jump_there first.Written so f = absurd so
+
+-- the first token of a statement
+abbrev pub begun : {c : Context} {w : Live} {f : node.Statement × Live} → Form production (Statement c w) f
+    → Lexeme × Position
+begun (form (choose l at f)) = (l, at)
+
+-- a jump on the right of `??`
+abbrev pub jump_right : {c : Context} {w : Live} {f : node.Statement × Live}
+    (s : Form production (Statement (below_global c) (in_block w)) f)
+    → IsJump (operand_start AfterCoalesce (begun s).0)
+    → Form production (RightOperand c w AfterCoalesce) (block_value (made_block f.0))
+jump_right s so =
+    form (choose (begun s).0 (begun s).1 (jump_there (operand_start AfterCoalesce (begun s).0) so (part _ s given)))
+
+-- the omitted unit of a range before a `]`
+abbrev pub unit_before : {c : Context} {w : Live} (closing : ℕ)
+    → Form production (RightOperand c w AfterRange) (unit (place 1 closing))
+unit_before closing =
+    form (choose (Sign token.RightBracket) (place 1 closing) (
+    here (Sign token.RightBracket) (place 1 closing) given))
+
+-- an operand with the operators after it
+abbrev pub run : {c : Context} {w : Live} {x y : Node} → Form production (Operand (level_up c) w) x
+    → Form production (BinaryOp (level_up c) w (position_of x) 1 x) y → Form production (Expression c w) y
+run f rest = form (here (front f).0 (front f).1 (must (part _ f (part _ rest given))))
+
+-- an operand alone, before a token
+abbrev pub alone : {c : Context} {w : Live} {x : Node} → (After c.filter None → Form production (Operand (level_up c) w) x)
+    → After c.filter None → Form production (Expression c w) x
+alone f t = run (f t) (ends t)
+
+-- a name alone, before a token
+abbrev pub name_alone : {c : Context} {w : Live} (name : Text) (column : ℕ) (t : After c.filter None)
+    → Form production (Expression c w) (name_tree w.slots (excludes_use t.token) name (place 1 column))
+name_alone name column t = run (named name column t) (ends t)
+
+-- an expression up to the end mark
+abbrev pub whole : {c : Context} {w : Live} {x : Node} → Form production (Expression c w) x → Written (Whole c w)
+whole {x = x} f = (x, form (part _ f (if_so given)))
+
+-- ---- links
+
+-- an index in brackets, and the links after it
+abbrev pub bracket : {w : Live} {spot : LinkSpot} {x : Node} {ls : List Link} (opening : ℕ)
+    → Form production (Expression (level_up (level_up spot.brackets)) w) x → (closing : ℕ)
+    → Form production (Links w (spot_after_bracket spot (bracket_link (Sign token.LeftBracket) (place 1 opening) x))) ls
+    → Form production (Links w spot) ls
+bracket opening f closing links =
+    form (choose (Sign token.LeftBracket) (place 1 opening) (this (Sign token.LeftBracket) (place 1 opening) (
+    must (must (part _ (form (part _ f (must (take (Sign token.RightBracket) (place 1 closing) given)))) (
+    part _ links given))))))
+
+-- the same after `?[`
+abbrev pub question_bracket : {w : Live} {spot : LinkSpot} {x : Node} {ls : List Link} (opening : ℕ)
+    → Form production (Expression (level_up (level_up spot.brackets)) w) x → (closing : ℕ)
+    → Form production (Links w (spot_after_bracket spot
+    (bracket_link (Sign token.QuestionBracket) (place 1 opening) x))) ls
+    → Form production (Links w spot) ls
+question_bracket opening f closing links =
+    form (choose (Sign token.QuestionBracket) (place 1 opening) (this (Sign token.QuestionBracket) (place 1 opening) (
+    must (must (part _ (form (part _ f (must (take (Sign token.RightBracket) (place 1 closing) given)))) (
+    part _ links given))))))
+
+-- a property after a dot, and the links after it
+abbrev pub dotted : {w : Live} {spot : LinkSpot} {ls : List Link} (dot : ℕ) (name : Text) (column : ℕ)
+    → Form production (Links w (spot_after_dot spot (member_link (Sign token.Period) (place 1 dot)
+    (property name (place 1 column))))) ls
+    → Form production (Links w spot) ls
+dotted dot name column links =
+    form (choose (Sign token.Period) (place 1 dot) (this (Sign token.Period) (place 1 dot) (
+    choose (Name name) (place 1 column) (must (part _ (form (this (Name name) (place 1 column) (
+    if_not (if_not given)))) (part _ links given))))))
+
+-- ---- lists
+
+-- the last argument, before the `)`
+abbrev pub last_argument : {c : Context} {w : Live} {before : Nodes} {x : Node} → Form production (Expression c w) x
+    → (closing : ℕ) → Form production (goal.Items c w before) (with_node before x)
+last_argument f closing =
+    form (part _ f (choose (Sign token.RightParen) (place 1 closing) (
+    this (Sign token.RightParen) (place 1 closing) given)))
+
+-- a name that is called with arguments in parentheses
+abbrev pub called : {c : Context} {w : Live} {o : Option (ℕ × Bool)} {ns : Nodes} (name : Text) (column opening : ℕ)
+    → Form production (goal.Items (level_up c) w node.no_nodes) ns → After c.filter o
+    → Form production (Operand c w) (call_tree (name_tree w.slots true name (place 1 column)) false ns)
+called name column opening items t =
+    form (choose (Name name) (place 1 column) (part _ (name_before name column (Sign token.LeftParen) opening) (
+    part _ (form (if_not (if_so (part _ (form (choose (Sign token.LeftParen) (place 1 opening) (
+    this (Sign token.LeftParen) (place 1 opening) (part _ (form (if_not (if_not (must (part _ items given))))) given)))) (
+    must given))))) (part _ (unlinked t) (must given)))))
+
+-- a name after `::` that is called with `()`
+abbrev pub path_called : {c : Context} {w : Live} {o : Option (ℕ × Bool)} (root : Text) (column colons : ℕ)
+    (name : Text) (at pair : ℕ) → After c.filter o
+    → Form production (Operand c w) (call_tree (qualified w.imports (name_tree w.slots true root (place 1 column)) name
+    (place 1 at)) false node.no_nodes)
+path_called root column colons name at pair t =
+    form (choose (Name root) (place 1 column) (part _ (name_before root column (Sign token.DoubleColon) colons) (
+    part _ (form (if_so (part _ (form (this (Sign token.DoubleColon) (place 1 colons) (
+    take (Name name) (place 1 at) (if_not given)))) (if_so (part _ (form (choose (Sign token.Unit) (place 1 pair) (
+    this (Sign token.Unit) (place 1 pair) given))) (must given)))))) (part _ (unlinked t) (must given)))))
+
+abbrev pub IsItem : ItemRole → Type 0
+IsItem item.Item = Unit {0}
+IsItem _ = ⊥
+
+-- where an item of an array begins
+abbrev pub item_there : {c : Context} {w : Live} {at : Position} {before ns : Nodes} (role : ItemRole) → IsItem role
+    → Filled production (goal.Elements c w at before) (P.element_by c w at before item.Item) ns
+    → Filled production (goal.Elements c w at before) (P.element_by c w at before role) ns
+item_there item.Item so f = f
+item_there item.End so f = absurd so
+item_there item.Nothing so f = absurd so
+
+-- an item of an array with the comma after it, and the items that follow
+abbrev pub element : {c : Context} {w : Live} {at : Position} {before ns : Nodes} {x : Node}
+    (f : Form production (Expression (level_up c) w) x)
+    → IsItem (item_role c.sizes.array (node_count before) (start f).0) → (comma : ℕ)
+    → Form production (goal.Elements c w at (with_node before x)) ns → Form production (goal.Elements c w at before) ns
+element {c} {before = before} f so comma rest =
+    form (choose (start f).0 (start f).1 (item_there (item_role c.sizes.array (node_count before) (start f).0) so (
+    must (part _ f (choose (Sign token.Comma) (place 1 comma) (
+    this (Sign token.Comma) (place 1 comma) (part _ rest given)))))))
+
+-- the last item, before the `]`
+abbrev pub last_element : {c : Context} {w : Live} {at : Position} {before : Nodes} {x : Node}
+    (f : Form production (Expression (level_up c) w) x)
+    → IsItem (item_role c.sizes.array (node_count before) (start f).0) → (closing : ℕ)
+    → Form production (goal.Elements c w at before) (with_node before x)
+last_element {c} {before = before} f so closing =
+    form (choose (start f).0 (start f).1 (item_there (item_role c.sizes.array (node_count before) (start f).0) so (
+    must (part _ f (choose (Sign token.RightBracket) (place 1 closing) (
+    this (Sign token.RightBracket) (place 1 closing) given))))))
+
+-- an array
+abbrev pub listed : {c : Context} {w : Live} {o : Option (ℕ × Bool)} {ns : Nodes} (opening : ℕ)
+    → Form production (goal.Elements (level_up c) w (place 1 opening) node.no_nodes) ns → After c.filter o
+    → Form production (Operand c w) (array ns (place 1 opening))
+listed opening items t =
+    form (choose (Sign token.LeftBracket) (place 1 opening) (linked (form (
+    choose (Sign token.LeftBracket) (place 1 opening) (this (Sign token.LeftBracket) (place 1 opening) (
+    must (part _ items given))))) (unlinked t)))
