@@ -40,7 +40,7 @@ COLUMNS = 120
 LANGUAGE = ROOT / "crates/rhai_grammar/specs"
 
 # Families of definitions: how their names begin or end, and what they hold.
-FAMILIES = {"Rows*": "Worked rows.", "*Laws": "Laws."}
+FAMILIES = {"RulesOf*": "Productions by their kind.", "*Laws": "Laws."}
 
 # How a line of a head comment begins, by how the file's name ends; elsewhere by `#`. A README has one after its title.
 MARKS = {".rt": "//!", ".antt": "--", ".md": ""}
