@@ -1,4 +1,4 @@
--- What a new engine hands over at its two entries, in a fresh state.
+-- What a new engine hands over at its two kinds of entry points, in a fresh state.
 use Rattle.std.specs.Prelude.{◌-◌, ◌^◌, ℕ}
 use Rattle.rhai_grammar.specs.Contexts.{Context, nothing_known}
 use Rattle.rhai_grammar.specs.declared.filter.ExprFilter.TheVariants.{All}
