@@ -68,6 +68,8 @@ pub mod LinesOfFunctions
 pub mod LinesOfClosures
 pub mod Evaluation
 pub mod SumRowLemmas
+pub mod RangeRowLemmas
+pub mod ListRowLemmas
 pub mod ChainRowLemmas
 pub mod StatementRowLemmas
 pub mod StringRowLemmas
@@ -75,4 +77,5 @@ pub mod ConstructRowLemmas
 pub mod ModuleRowLemmas
 pub mod FunctionRowLemmas
 pub mod ClosureRowLemmas
+pub mod ClosureBodyRowLemmas
 pub mod EntryRowLemmas

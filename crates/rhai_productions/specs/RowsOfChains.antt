@@ -14,9 +14,10 @@ use Rattle.rhai_lower.specs.declared.node.LinkFlags.{LinkFlags}
 use Rattle.rhai_lower.specs.declared.token.Token.TheVariants as token
 use Rattle.rhai_productions.specs.Derived.{choose, form, given, if_not, if_so, must, must_here, part, this, uses}
 use Rattle.rhai_productions.specs.Promised.{Unwritten, Written, tree_of}
-use Rattle.rhai_productions.specs.WorkedForms.{Fits, Misses, bracket, dotted, ends, formula, group, name_alone}
-use Rattle.rhai_productions.specs.WorkedForms.{name_linked, question_bracket, run, unlinked, whole}
+use Rattle.rhai_productions.specs.WorkedForms.{ends, group, name_alone, name_linked, run, unlinked, whole}
+use Rattle.rhai_productions.specs.WorkedLists.{bracket, dotted, question_bracket}
 use Rattle.rhai_productions.specs.WorkedOpenForms.{open_operand, open_part, open_whole}
+use Rattle.rhai_productions.specs.WorkedRows.{Fits, Misses, formula}
 use Rattle.rhai_productions.specs.WorkedTokens.{closing_bracket, closing_paren, end_mark}
 use Rattle.std.specs.Prelude.{List, None, ℕ, [], codes, false, true, ◌∷◌, ◌≡◌}
 

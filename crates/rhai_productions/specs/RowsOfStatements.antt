@@ -16,11 +16,11 @@ use Rattle.rhai_lower.specs.declared.token.Token.TheVariants as token
 use Rattle.rhai_productions.specs.Derived.{choose, form, given, if_not, must, never_here, open_form, part, take_here}
 use Rattle.rhai_productions.specs.Derived.{this}
 use Rattle.rhai_productions.specs.Promised.{Unwritten, Written, tree_of}
-use Rattle.rhai_productions.specs.WorkedForms.{Fits, IsTrue, Misses, alone, ends, formula, name_alone, number, run}
-use Rattle.rhai_productions.specs.WorkedForms.{script, unlinked, whole}
+use Rattle.rhai_productions.specs.WorkedForms.{alone, ends, name_alone, number, run, unlinked, whole}
 use Rattle.rhai_productions.specs.WorkedOpenForms.{open_part, too_deep}
 use Rattle.rhai_productions.specs.WorkedOpenStatements.{deep_let, open_block_at, open_evaluates, open_first, open_let}
 use Rattle.rhai_productions.specs.WorkedOpenStatements.{open_many, open_next, open_semicolon, refused_assignment}
+use Rattle.rhai_productions.specs.WorkedRows.{Fits, IsTrue, Misses, formula, script}
 use Rattle.rhai_productions.specs.WorkedStatements.{block_at, closed, constant, evaluates, first_of, followed_by}
 use Rattle.rhai_productions.specs.WorkedStatements.{last_inside, lets, many, no_more, one, semicolon_then, single}
 use Rattle.rhai_productions.specs.WorkedStatements.{valued, written_as}
@@ -63,11 +63,13 @@ scopes_tokens =
 -- under a context in which a block has statements
 abbrev pub scopes_form : (c : Context) → IsTrue (not (has_single_blocks c)) → Written (script c)
 scopes_form c so =
-    written_as (first_of (lets 1 (valued (codes "x") 5 7 (alone (number 1 9) (semicolon 10)))) tt (semicolon_then 10
-    (first_of (lets 12 (valued (codes "y") 16 18 (alone (number 2 20) (semicolon 21)))) tt (semicolon_then 21 (first_of
-    (block_at 23 (closed (many so (first_of (lets 25 (valued (codes "x") 29 31
-    (name_alone (codes "x") 33 (semicolon 34)))) tt (semicolon_then 34 (first_of (evaluates (name_alone (codes "x") 36
-    (closing_brace 38)) tt) tt (last_inside 38))))) 38)) tt (followed_by (no_more 39)))))))
+    written_as (
+    first_of (lets 1 (valued (codes "x") 5 7 (alone (number 1 9) (semicolon 10)))) tt (semicolon_then 10 (
+    first_of (lets 12 (valued (codes "y") 16 18 (alone (number 2 20) (semicolon 21)))) tt (semicolon_then 21 (
+    first_of (block_at 23 (closed (many so (
+      first_of (lets 25 (valued (codes "x") 29 31 (name_alone (codes "x") 33 (semicolon 34)))) tt (semicolon_then 34 (
+      first_of (evaluates (name_alone (codes "x") 36 (closing_brace 38)) tt) tt (last_inside 38))))) 38)) tt
+    (followed_by (no_more 39)))))))
 
 abbrev pub scopes_inner_tree : node.Statements
 scopes_inner_tree =
@@ -98,8 +100,9 @@ again_tokens = let_tokens 1 (codes "x") 5 7 1 9 10 ++ let_tokens 12 (codes "x") 
 
 abbrev pub again_form : Written (script (depth 64))
 again_form =
-    written_as (first_of (lets 1 (valued (codes "x") 5 7 (alone (number 1 9) (semicolon 10)))) tt (semicolon_then 10
-    (first_of (lets 12 (valued (codes "x") 16 18 (alone (number 2 20) (semicolon 21)))) tt
+    written_as (
+    first_of (lets 1 (valued (codes "x") 5 7 (alone (number 1 9) (semicolon 10)))) tt (semicolon_then 10 (
+    first_of (lets 12 (valued (codes "x") 16 18 (alone (number 2 20) (semicolon 21)))) tt
     (semicolon_then 21 (no_more 22)))))
 
 abbrev pub again_tree : node.Statements
@@ -129,8 +132,8 @@ constant_tokens = constant_begun ++ constant_rest
 
 abbrev pub constant_form : Unwritten (script (depth 64))
 constant_form =
-    open_next (constant 1 (valued (codes "x") 7 9 (alone (number 1 11) (semicolon 12)))) tt (open_semicolon 12
-    (open_first (open_evaluates (Name (codes "x")) 14 tt (refused_assignment (name_alone (codes "x") 14 (equals 16)) 16
+    open_next (constant 1 (valued (codes "x") 7 9 (alone (number 1 11) (semicolon 12)))) tt (open_semicolon 12 (
+    open_first (open_evaluates (Name (codes "x")) 14 tt (refused_assignment (name_alone (codes "x") 14 (equals 16)) 16
     (alone (number 2 18) (semicolon 19)))) tt))
 
 abbrev pub constant_refused : Refusal
@@ -149,13 +152,15 @@ ended_tokens = open_tokens ++ ((Sign token.SemiColon, 4) ∷ [])
 
 abbrev pub open_block : Unwritten (script (depth 64))
 open_block =
-    open_first (open_block_at 1 (open_many tt (open_next (evaluates (alone (number 1 3) (end_mark 4)) tt) tt (choose
-    (Sign token.EOF) (place 1 4) never_here)))) tt
+    open_first (open_block_at 1 (open_many tt (
+      open_next (evaluates (alone (number 1 3) (end_mark 4)) tt) tt (choose (Sign token.EOF) (place 1 4) never_here))))
+    tt
 
 abbrev pub ended_block : Unwritten (script (depth 64))
 ended_block =
-    open_first (open_block_at 1 (open_many tt (open_next (evaluates (alone (number 1 3) (semicolon 4)) tt) tt
-    (open_semicolon 4 (open_form (choose (Sign token.EOF) (place 1 5) never_here)))))) tt
+    open_first (open_block_at 1 (open_many tt (
+      open_next (evaluates (alone (number 1 3) (semicolon 4)) tt) tt (open_semicolon 4 (open_form (choose
+      (Sign token.EOF) (place 1 5) never_here)))))) tt
 
 pub record OpenBlockRow : Type 0 where
   pub missed : Misses (script (depth 64)) open_block (unread open_tokens 4)
@@ -186,7 +191,7 @@ abbrev pub value_form : Written (formula block_values)
 value_form =
     whole (run (form (choose (Sign token.LeftBrace) (place 1 1) (part _ (form (choose (Sign token.LeftBrace)
     (place 1 1) (this (Sign token.LeftBrace) (place 1 1) (must (must (part _ (form (part _ (closed (one tt (single
-    (alone (number 1 3) (closing_brace 5)))) 5) given)) given)))))) (part _ (form (if_not (if_not given))) (part _
+      (alone (number 1 3) (closing_brace 5)))) 5) given)) given)))))) (part _ (form (if_not (if_not given))) (part _
     (unlinked (end_mark 6)) (must given)))))) (ends (end_mark 6)))
 
 abbrev pub value_tokens : List (Lexeme × ℕ)
@@ -214,8 +219,8 @@ let_rest = (Integer (pos 1), 9) ∷ (Sign token.SemiColon, 10) ∷ []
 
 abbrev pub let_form : (limit : ℕ) → Written (script (depth limit))
 let_form limit =
-    written_as (first_of (lets 1 (valued (codes "x") 5 7 (alone (number 1 9) (semicolon 10)))) tt
-    (semicolon_then 10 (no_more 11)))
+    written_as (
+    first_of (lets 1 (valued (codes "x") 5 7 (alone (number 1 9) (semicolon 10)))) tt (semicolon_then 10 (no_more 11)))
 
 abbrev pub let_value_deep : Unwritten (script (depth 2))
 let_value_deep = open_first (open_let 1 (codes "x") 5 7 (too_deep (Integer (pos 1)) 9)) tt

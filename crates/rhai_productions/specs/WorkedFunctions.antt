@@ -27,7 +27,8 @@ use Rattle.rhai_productions.specs.Derived.{Form, Filled, form, given, take, this
 use Rattle.rhai_productions.specs.Derived.{adds, apart, captures, in_text, knows, literal, part}
 use Rattle.rhai_productions.specs.Rules as P
 use Rattle.rhai_productions.specs.Rules.{production}
-use Rattle.rhai_productions.specs.WorkedForms.{IsTrue, holds, linked, start, unlinked}
+use Rattle.rhai_productions.specs.WorkedForms.{ends, linked, run, start, unlinked}
+use Rattle.rhai_productions.specs.WorkedRows.{IsTrue, holds}
 use Rattle.rhai_productions.specs.WorkedTokens.{After}
 
 -- ---- loops
@@ -230,3 +231,17 @@ parameter_then {c} at name column closing so us n f links =
     choose (Name name) (place 1 column) (this (Name name) (place 1 column) (must (
     choose (Sign token.Pipe) (place 1 closing) (this (Sign token.Pipe) (place 1 closing) given)))))) (
     ended_by (name ∷ []) us n f)))) given))))) links))
+
+-- a closure alone, without links, before a token
+abbrev pub bars_alone : {c : Context} {w : Live} {f : node.Statement} (at : ℕ)
+    → IsTrue (may_be_closure (level_up c) bars.Pair) → (us : List Use) (n : ℕ)
+    → Form production (goal.ClosureBody (level_up (in_closure (level_up c) w)) (parameters_live [])) f
+    → After c.filter None → Form production (Expression c w) (closure_node (place 1 at) n us [] w)
+bars_alone at so us n f t = run (bars_then at so us n f (unlinked t)) (ends t)
+
+abbrev pub parameter_alone : {c : Context} {w : Live} {f : node.Statement} (at : ℕ) (name : Text)
+    (column closing : ℕ) → IsTrue (may_be_closure (level_up c) bars.List) → (us : List Use) (n : ℕ)
+    → Form production (goal.ClosureBody (level_up (in_closure (level_up c) w)) (parameters_live (name ∷ []))) f
+    → After c.filter None → Form production (Expression c w) (closure_node (place 1 at) n us (name ∷ []) w)
+parameter_alone at name column closing so us n f t =
+    run (parameter_then at name column closing so us n f (unlinked t)) (ends t)

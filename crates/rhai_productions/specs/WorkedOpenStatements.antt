@@ -23,8 +23,9 @@ use Rattle.rhai_productions.specs.Derived.{Form, Open, Stopped, form, open_form,
 use Rattle.rhai_productions.specs.Derived.{must, knows, given, part, part_here, must_here, knows_here}
 use Rattle.rhai_productions.specs.Rules as P
 use Rattle.rhai_productions.specs.Rules.{production}
-use Rattle.rhai_productions.specs.WorkedForms.{IsTrue, begun}
-use Rattle.rhai_productions.specs.WorkedOpenForms.{holds, open_part}
+use Rattle.rhai_productions.specs.WorkedForms.{begun}
+use Rattle.rhai_productions.specs.WorkedOpenForms.{holds_open, open_part}
+use Rattle.rhai_productions.specs.WorkedRows.{IsTrue}
 use Rattle.rhai_productions.specs.WorkedStatements.{IsExpression, IsStatement}
 
 -- ---- lists of statements
@@ -204,4 +205,4 @@ abbrev pub open_bars : {c : Context} {w : Live} (at : ℕ) → IsTrue (may_be_cl
     → Stopped production (Operand c w) (production (Operand c w))
 open_bars {c} at so f =
     choose (Sign token.Or) (place 1 at) (open_part (choose (Sign token.Or) (place 1 at) (
-    holds _ (may_be_closure c bars.Pair) so (this (Sign token.Or) (place 1 at) (part_here f)))))
+    holds_open _ (may_be_closure c bars.Pair) so (this (Sign token.Or) (place 1 at) (part_here f)))))

@@ -26,7 +26,8 @@ use Rattle.rhai_productions.specs.Derived.{knows, adds, part}
 use Rattle.rhai_productions.specs.Promised.{Written}
 use Rattle.rhai_productions.specs.Rules as P
 use Rattle.rhai_productions.specs.Rules.{production}
-use Rattle.rhai_productions.specs.WorkedForms.{IsTrue, begun, start}
+use Rattle.rhai_productions.specs.WorkedForms.{begun, start}
+use Rattle.rhai_productions.specs.WorkedRows.{IsTrue}
 
 -- ---- statements
 
@@ -217,12 +218,12 @@ block_at at f =
 -- ---- jumps
 
 -- a value after a jump; and none
-abbrev pub giving : {c : Context} {w : Live} {at : Position} {x : Node}
+abbrev pub with_value : {c : Context} {w : Live} {at : Position} {x : Node}
     → Form production (Expression (level_up c) w) x → Form production (goal.Jump c w at) (present x)
-giving f = form (if_so (must (part _ f given)))
+with_value f = form (if_so (must (part _ f given)))
 
-abbrev pub giving_nothing : {c : Context} {w : Live} {at : Position} → Form production (goal.Jump c w at) absent
-giving_nothing = form (if_not (must given))
+abbrev pub without_value : {c : Context} {w : Live} {at : Position} → Form production (goal.Jump c w at) absent
+without_value = form (if_not (must given))
 
 abbrev pub returns : {c : Context} {w : Live} {x : node.Optional} (at : ℕ)
     → Form production (goal.Jump c w (place 1 at)) x
