@@ -1,5 +1,5 @@
 -- Demands that are met or missed by evaluation: what is left to show are equations.
-use Rattle.std.proofs.Common.{◌≡◌, Bool, true, false, List, refl, sym, subst, inl, inr}
+use Rattle.std.proofs.Common.{◌≡◌, true, false, refl, subst, inl, inr}
 use Rattle.rhai_lower.specs.Lexemes.{Lexeme}
 use Rattle.rhai_lower.specs.Positions.{nowhere}
 use Rattle.rhai_lower.specs.declared.position.Position.{Position}

@@ -19,7 +19,7 @@ use Rattle.rhai_productions.specs.RowsOfStatements.{integer}
 use Rattle.rhai_productions.specs.WorkedForms.{alone, ends, joins_last, name_alone, number, right, run, unlinked}
 use Rattle.rhai_productions.specs.WorkedForms.{whole}
 use Rattle.rhai_productions.specs.WorkedFunctions.{arm_then, bars_alone, bars_then, brace_after, does, doing}
-use Rattle.rhai_productions.specs.WorkedFunctions.{doing_nothing, function, no_arm, no_parameters, switch}
+use Rattle.rhai_productions.specs.WorkedFunctions.{doing_nothing, no_arm, no_parameters, switch}
 use Rattle.rhai_productions.specs.WorkedLists.{dotted}
 use Rattle.rhai_productions.specs.WorkedOpenForms.{open_operand, open_whole}
 use Rattle.rhai_productions.specs.WorkedOpenStatements.{no_room, open_bars, open_declares, open_evaluates, open_first}
@@ -28,7 +28,7 @@ use Rattle.rhai_productions.specs.WorkedRows.{Fits, Misses, formula, script}
 use Rattle.rhai_productions.specs.WorkedStatements.{block_at, closed, evaluates, first_of, followed_by, last_inside}
 use Rattle.rhai_productions.specs.WorkedStatements.{many, no_more, written_as}
 use Rattle.rhai_productions.specs.WorkedTokens.{arrow, bar, closing_brace, end_mark, opening_brace}
-use Rattle.std.specs.Prelude.{List, None, ℕ, [], codes, false, map, pos, true, ◌++◌, ◌+◌, ◌∷◌, ◌≡◌}
+use Rattle.std.specs.Prelude.{List, None, ℕ, [], codes, false, pos, true, ◌++◌, ◌∷◌, ◌≡◌}
 
 -- ---- `|| {1}.x`: after a body that ends by itself, a dot belongs to the closure
 

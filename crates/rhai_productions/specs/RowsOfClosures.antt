@@ -18,13 +18,13 @@ use Rattle.rhai_productions.specs.Promised.{Written, tree_of}
 use Rattle.rhai_productions.specs.RowsOfFunctions.{one_function}
 use Rattle.rhai_productions.specs.RowsOfStatements.{definition, integer, let_tokens}
 use Rattle.rhai_productions.specs.WorkedForms.{alone, joins_last, name_alone, named, number, right, run, whole}
-use Rattle.rhai_productions.specs.WorkedFunctions.{bars_alone, doing, function, parameter_alone}
+use Rattle.rhai_productions.specs.WorkedFunctions.{bars_alone, doing, parameter_alone}
 use Rattle.rhai_productions.specs.WorkedRows.{Fits, IsTrue, formula, script}
-use Rattle.rhai_productions.specs.WorkedStatements.{constant, evaluates, first_of, last_before, lets, semicolon_then}
+use Rattle.rhai_productions.specs.WorkedStatements.{evaluates, first_of, last_before, lets, semicolon_then}
 use Rattle.rhai_productions.specs.WorkedStatements.{valued, written_as}
 use Rattle.rhai_productions.specs.WorkedTokens.{end_mark, membership, plus, semicolon}
 use Rattle.rhai_reading.specs.Reading.{Expression}
-use Rattle.std.specs.Prelude.{List, None, Option, Some, ℕ, [], codes, false, length, map, ◌++◌, ◌+◌, ◌∷◌, ◌≡◌}
+use Rattle.std.specs.Prelude.{List, None, Option, Some, ℕ, [], codes, false, length, map, ◌++◌, ◌∷◌, ◌≡◌}
 
 -- names at columns
 abbrev pub names_at : List (Text × ℕ) → List Use

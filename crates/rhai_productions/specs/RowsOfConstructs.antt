@@ -11,7 +11,7 @@ use Rattle.rhai_lower.specs.Nodes as node
 use Rattle.rhai_lower.specs.Positions.{nowhere, place}
 use Rattle.rhai_lower.specs.Slots.{fresh_slot}
 use Rattle.rhai_lower.specs.declared.token.Token.TheVariants as token
-use Rattle.rhai_productions.specs.Derived.{choose, form, given, if_not, literal, literal_here, must, must_here}
+use Rattle.rhai_productions.specs.Derived.{choose, form, given, if_not, literal_here, must, must_here}
 use Rattle.rhai_productions.specs.Derived.{open_form, part, take, take_here, this}
 use Rattle.rhai_productions.specs.Promised.{Unwritten, Written, tree_of}
 use Rattle.rhai_productions.specs.RowsOfStatements.{begins, definition, integer, let_tokens, variable}
@@ -27,7 +27,7 @@ use Rattle.rhai_productions.specs.WorkedStatements.{last_before, last_inside, le
 use Rattle.rhai_productions.specs.WorkedStatements.{valued, without_value, written_as}
 use Rattle.rhai_productions.specs.WorkedTokens.{arrow, case_bar, closing_brace, comma, end_mark, opening_brace, plus}
 use Rattle.rhai_productions.specs.WorkedTokens.{range, semicolon}
-use Rattle.std.specs.Prelude.{List, None, Some, ℕ, [], codes, false, not, pos, true, ◌++◌, ◌+◌, ◌∷◌, ◌≡◌}
+use Rattle.std.specs.Prelude.{List, None, Some, ℕ, [], codes, false, not, pos, true, ◌++◌, ◌∷◌, ◌≡◌}
 
 -- ---- loops
 

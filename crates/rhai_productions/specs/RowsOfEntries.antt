@@ -2,7 +2,7 @@
 use Rattle.rhai_grammar.specs.Causes.{Refusal, refusal}
 use Rattle.rhai_grammar.specs.Causes as cause
 use Rattle.rhai_grammar.specs.Contexts.{Context, has_single_blocks, nothing_live}
-use Rattle.rhai_grammar.specs.Delivered.{code, item, past, text}
+use Rattle.rhai_grammar.specs.Delivered.{code, past, text}
 use Rattle.rhai_grammar.specs.EntryContexts.{at_entry, entry_expression, entry_script}
 use Rattle.rhai_grammar.specs.Libraries.{Ended, Library}
 use Rattle.rhai_grammar.specs.RowStreams.{between, holding, unread}
@@ -32,8 +32,8 @@ use Rattle.rhai_productions.specs.WorkedOpenStatements.{open_followed, open_jump
 use Rattle.rhai_productions.specs.WorkedOpenStatements.{refused_function}
 use Rattle.rhai_productions.specs.WorkedRows.{Fits, IsTrue, Misses, formula, script}
 use Rattle.rhai_productions.specs.WorkedStatements.{closed, many, no_more_inside, one, single}
-use Rattle.rhai_productions.specs.WorkedTokens.{closing_brace, end_mark, range}
-use Rattle.std.specs.Prelude.{List, None, ℕ, [], codes, false, ◌++◌, ◌+◌, ◌∷◌, ◌≡◌}
+use Rattle.rhai_productions.specs.WorkedTokens.{closing_brace, end_mark}
+use Rattle.std.specs.Prelude.{List, None, ℕ, [], codes, false, ◌++◌, ◌∷◌, ◌≡◌}
 
 -- An expression has this tree, fits at its entry, and spells these tokens; these functions end in it.
 pub record EntersExpression (f : Written (formula (entry_expression 64))) (tokens : List (Lexeme × ℕ)) (end : ℕ)

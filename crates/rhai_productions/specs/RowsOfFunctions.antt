@@ -22,7 +22,7 @@ use Rattle.rhai_productions.specs.WorkedRows.{Fits, Misses, script}
 use Rattle.rhai_productions.specs.WorkedStatements.{closed, evaluates, first_of, followed_by, last_inside, many}
 use Rattle.rhai_productions.specs.WorkedStatements.{no_more, no_more_inside, written_as}
 use Rattle.rhai_productions.specs.WorkedTokens.{closing_brace}
-use Rattle.std.specs.Prelude.{List, None, ℕ, [], codes, false, map, ◌++◌, ◌+◌, ◌∷◌, ◌≡◌}
+use Rattle.std.specs.Prelude.{List, None, ℕ, [], codes, false, ◌++◌, ◌∷◌, ◌≡◌}
 
 -- `fn f(a) { a }`
 abbrev pub function_begun : List (Lexeme × ℕ)

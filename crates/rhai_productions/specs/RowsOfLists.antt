@@ -18,7 +18,7 @@ use Rattle.rhai_productions.specs.WorkedOpenForms.{deep_arguments, open_argument
 use Rattle.rhai_productions.specs.WorkedOpenForms.{open_operand, open_whole, too_deep}
 use Rattle.rhai_productions.specs.WorkedRows.{Fits, Misses, formula}
 use Rattle.rhai_productions.specs.WorkedTokens.{closing_paren, comma, end_mark}
-use Rattle.std.specs.Prelude.{List, None, ℕ, [], codes, false, map, pos, ◌++◌, ◌+◌, ◌∷◌, ◌≡◌}
+use Rattle.std.specs.Prelude.{List, None, ℕ, [], codes, false, pos, ◌++◌, ◌∷◌, ◌≡◌}
 
 -- `f(1)` fits under the depth limit 3. Under the limit 2 the argument is too deep, and under the limit 1 the list of
 -- arguments, at its name.

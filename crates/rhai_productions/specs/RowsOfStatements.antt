@@ -25,7 +25,7 @@ use Rattle.rhai_productions.specs.WorkedStatements.{block_at, closed, constant, 
 use Rattle.rhai_productions.specs.WorkedStatements.{last_inside, lets, many, no_more, one, semicolon_then, single}
 use Rattle.rhai_productions.specs.WorkedStatements.{valued, written_as}
 use Rattle.rhai_productions.specs.WorkedTokens.{closing_brace, end_mark, equals, semicolon}
-use Rattle.std.specs.Prelude.{Bool, List, None, Option, Some, ℕ, [], codes, false, not, pos, true, ◌++◌, ◌+◌, ◌∷◌, ◌≡◌}
+use Rattle.std.specs.Prelude.{Bool, List, None, Option, Some, ℕ, [], codes, false, not, pos, true, ◌++◌, ◌∷◌, ◌≡◌}
 
 -- ---- nodes and tokens on the first line, each token at its column
 

@@ -22,7 +22,7 @@ use Rattle.rhai_productions.specs.WorkedRows.{Fits, IsTrue, Misses, formula, scr
 use Rattle.rhai_productions.specs.WorkedStatements.{evaluates, first_of, last_inside, many, returns, with_value}
 use Rattle.rhai_productions.specs.WorkedStatements.{without_value}
 use Rattle.rhai_productions.specs.WorkedTokens.{closing_brace, coalesce, end_mark}
-use Rattle.std.specs.Prelude.{List, None, ℕ, [], codes, false, not, pos, reverse, ◌++◌, ◌+◌, ◌∷◌, ◌≡◌}
+use Rattle.std.specs.Prelude.{List, None, ℕ, [], codes, false, not, pos, reverse, ◌++◌, ◌∷◌, ◌≡◌}
 
 -- ---- interpolated strings
 

@@ -15,7 +15,7 @@ use Rattle.rhai_productions.specs.WorkedForms.{ends, joins, joins_last, leaves, 
 use Rattle.rhai_productions.specs.WorkedOpenForms.{deep_right, open_rest, open_run, open_tighter, open_whole}
 use Rattle.rhai_productions.specs.WorkedRows.{Fits, Misses, formula}
 use Rattle.rhai_productions.specs.WorkedTokens.{end_mark, plus, times}
-use Rattle.std.specs.Prelude.{List, ℕ, [], pos, ◌++◌, ◌+◌, ◌∷◌, ◌≡◌}
+use Rattle.std.specs.Prelude.{List, ℕ, [], pos, ◌++◌, ◌∷◌, ◌≡◌}
 
 -- `1 + 2 * 3`: the product is the sum's right operand.
 abbrev pub sum_tokens : List (Lexeme × ℕ)

@@ -1,6 +1,6 @@
 -- Parts of written forms that worked rows have in common: constructs, functions and closures. Each token is on the
 -- first line, at its column. Where a test of tokens or settings has to hold, `tt` says so: it is evaluated.
-use Rattle.std.specs.Prelude.{ℕ, Bool, true, false, not, Option, Some, None, List, [], ◌∷◌, ◌++◌, if◌then◌else◌}
+use Rattle.std.specs.Prelude.{ℕ, Bool, true, false, not, Option, Some, None, List, [], ◌∷◌, if◌then◌else◌}
 use Rattle.rhai_lower.specs.Lexemes as lexeme
 use Rattle.rhai_lower.specs.Nodes as node
 use Rattle.rhai_lower.specs.Nodes.{for_statement}
@@ -12,7 +12,6 @@ use Rattle.rhai_grammar.specs.Prelude.{has_single_blocks, in_block, in_case, in_
 use Rattle.rhai_grammar.specs.Prelude.{loop_live, made_block, may_be_closure, noop, nothing_collected, parameters_live}
 use Rattle.rhai_grammar.specs.Prelude.{place, spot_after_operand, switch_tree, with_arm_collected, with_node}
 use Rattle.rhai_grammar.specs.Switches.{no_guard}
-use Rattle.rhai_grammar.specs.declared.list.CommaList.TheVariants as lists
 use Rattle.rhai_grammar.specs.declared.role.ArmRole.{ArmRole}
 use Rattle.rhai_grammar.specs.declared.role.ArmRole.TheVariants as arm
 use Rattle.rhai_grammar.specs.declared.role.Bars.{Bars}

@@ -1,32 +1,20 @@
 -- Parts of written forms that worked rows have in common: links, calls and arrays. Each token is on the first line, at
 -- its column. Where a test of tokens or settings has to hold, `tt` says so: it is evaluated.
-use Rattle.std.specs.Prelude.{ℕ, Bool, true, false, not, Option, Some, None, List, [], pos, if◌then◌else◌}
+use Rattle.std.specs.Prelude.{ℕ, Bool, true, false, Option, List}
 use Rattle.rhai_lower.specs.Nodes as node
 use Rattle.rhai_lower.specs.declared.token.Token.TheVariants as token
-use Rattle.rhai_grammar.specs.Contexts.{nothing_live}
-use Rattle.rhai_grammar.specs.Delivered.{Mode, Point}
-use Rattle.rhai_grammar.specs.Demands.{Met, Missed}
-use Rattle.rhai_grammar.specs.Prelude.{Context, Integer, Link, LinkSpot, Live, Lexeme, Name, Node, Nodes, Position}
-use Rattle.rhai_grammar.specs.Prelude.{Refusal, Sign, String, Text, array, below_global, block_value, bracket_link, call_tree, chained, excludes_use}
-use Rattle.rhai_grammar.specs.Prelude.{in_block, level_up, made_block, member_link, name_tree, node_count, operand_start, operator_tree}
-use Rattle.rhai_grammar.specs.Prelude.{place, position_of, property, qualified, role_after, signed, spot_after_bracket, spot_after_dot}
-use Rattle.rhai_grammar.specs.Prelude.{spot_after_operand, unit, with_node}
+use Rattle.rhai_grammar.specs.Prelude.{Context, Link, LinkSpot, Live, Name, Node, Nodes, Position}
+use Rattle.rhai_grammar.specs.Prelude.{Sign, Text, array, bracket_link, call_tree}
+use Rattle.rhai_grammar.specs.Prelude.{level_up, member_link, name_tree, node_count}
+use Rattle.rhai_grammar.specs.Prelude.{place, property, qualified, spot_after_bracket, spot_after_dot}
+use Rattle.rhai_grammar.specs.Prelude.{with_node}
 use Rattle.rhai_grammar.specs.Literals.{item_role}
-use Rattle.rhai_grammar.specs.declared.role.Beginning.TheVariants as begin
 use Rattle.rhai_grammar.specs.declared.role.ItemRole.{ItemRole}
 use Rattle.rhai_grammar.specs.declared.role.ItemRole.TheVariants as item
-use Rattle.rhai_grammar.specs.declared.role.OperandRole.{OperandRole}
-use Rattle.rhai_grammar.specs.declared.role.OperandRole.TheVariants.{AfterCoalesce, AfterRange, Elsewhere}
-use Rattle.rhai_grammar.specs.declared.role.OperandStart.{OperandStart}
-use Rattle.rhai_grammar.specs.declared.role.OperandStart.TheVariants as first
 use Rattle.rhai_reading.specs.Goals as goal
-use Rattle.rhai_reading.specs.Reading.{Goal, Val, Whole, Expression, Operand, RightOperand, Primary, Links, Script, Statement}
-use Rattle.rhai_reading.specs.Reading.{NextOperator, BinaryOp, continues}
-use Rattle.rhai_productions.specs.Schema as S
-use Rattle.rhai_productions.specs.Schema.{Production}
-use Rattle.rhai_productions.specs.Derived.{Form, Filled, form, given, take, this, if_so, if_not, choose, here, must}
-use Rattle.rhai_productions.specs.Derived.{uses, part}
-use Rattle.rhai_productions.specs.Promised.{Unwritten, Written, unwritten, written}
+use Rattle.rhai_reading.specs.Reading.{Expression, Operand, Links}
+use Rattle.rhai_productions.specs.Derived.{Form, Filled, form, given, take, this, if_so, if_not, choose, must}
+use Rattle.rhai_productions.specs.Derived.{part}
 use Rattle.rhai_productions.specs.Rules as P
 use Rattle.rhai_productions.specs.Rules.{production}
 use Rattle.rhai_productions.specs.WorkedForms.{linked, name_before, start, unlinked}

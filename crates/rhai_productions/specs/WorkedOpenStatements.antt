@@ -1,10 +1,10 @@
 -- Parts of open forms of statements that worked rows have in common: the way to the demand that is missed. Each token
 -- is on the first line, at its column.
-use Rattle.std.specs.Prelude.{ℕ, Bool, true, false, not, Option, Some, None, List, []}
+use Rattle.std.specs.Prelude.{ℕ, Bool, true, false, not, List, []}
 use Rattle.rhai_lower.specs.Nodes as node
 use Rattle.rhai_lower.specs.declared.token.Token.TheVariants as token
-use Rattle.rhai_grammar.specs.Prelude.{Collected, Comment, Context, Ended, Lexeme, Live, Name, Node, Position, Sign, Text}
-use Rattle.rhai_grammar.specs.Prelude.{below_global, ends_itself, has_single_blocks, in_block, in_closure, in_function}
+use Rattle.rhai_grammar.specs.Prelude.{Comment, Context, Ended, Lexeme, Live, Name, Node, Position, Sign, Text}
+use Rattle.rhai_grammar.specs.Prelude.{below_global, ends_itself, has_single_blocks, in_block, in_function}
 use Rattle.rhai_grammar.specs.Prelude.{level_up, may_be_closure, nothing_collected, parameters_live, place}
 use Rattle.rhai_grammar.specs.Prelude.{statement_start, with_kept}
 use Rattle.rhai_grammar.specs.Statements.{statement_role}
@@ -18,7 +18,6 @@ use Rattle.rhai_grammar.specs.declared.role.StatementStart.{StatementStart}
 use Rattle.rhai_grammar.specs.declared.role.StatementStart.TheVariants as first
 use Rattle.rhai_reading.specs.Goals as goal
 use Rattle.rhai_reading.specs.Reading.{Expression, Operand, Statement, Statements, ExprStatement, Inside, Block}
-use Rattle.rhai_productions.specs.Schema as S
 use Rattle.rhai_productions.specs.Derived.{Form, Open, Stopped, form, open_form, take, this, if_so, if_not, choose, here}
 use Rattle.rhai_productions.specs.Derived.{must, knows, given, part, part_here, must_here, knows_here}
 use Rattle.rhai_productions.specs.Rules as P

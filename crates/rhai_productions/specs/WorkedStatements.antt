@@ -1,28 +1,24 @@
 -- Parts of written forms that worked rows have in common: statements, blocks and functions. Each token is on the first
 -- line, at its column. Where a test of tokens or settings has to hold, `tt` says so: it is evaluated.
-use Rattle.std.specs.Prelude.{ℕ, Bool, true, false, not, Option, Some, None, List, [], if◌then◌else◌}
-use Rattle.rhai_lower.specs.Lexemes.{Comment, String}
+use Rattle.std.specs.Prelude.{ℕ, Bool, true, false, not, Some, if◌then◌else◌}
 use Rattle.rhai_lower.specs.Nodes as node
 use Rattle.rhai_lower.specs.declared.token.Token.TheVariants as token
-use Rattle.rhai_grammar.specs.Prelude.{Context, Lexeme, Live, Name, Node, Position, Sign, Text, absent, allows_looping}
+use Rattle.rhai_grammar.specs.Prelude.{Context, Live, Name, Node, Position, Sign, Text, absent, allows_looping}
 use Rattle.rhai_grammar.specs.Prelude.{below_global, block_statement, braces, defined_as, definition_tree, ends_itself}
-use Rattle.rhai_grammar.specs.Prelude.{expression, has_single_blocks, import_tree, imported, in_block, in_function}
-use Rattle.rhai_grammar.specs.Prelude.{is_assignment, level_up, loop_body, loop_live, name_tree, nowhere, parameters_live}
+use Rattle.rhai_grammar.specs.Prelude.{expression, has_single_blocks, import_tree, imported, in_block}
+use Rattle.rhai_grammar.specs.Prelude.{level_up, nowhere}
 use Rattle.rhai_grammar.specs.Prelude.{place, present, return_statement, statement_start, unit, with_kept}
 use Rattle.rhai_grammar.specs.Statements.{statement_role}
-use Rattle.rhai_grammar.specs.Targets.{update_of}
 use Rattle.rhai_grammar.specs.declared.role.Closing.{Closing}
 use Rattle.rhai_grammar.specs.declared.role.Closing.TheVariants.{Brace, EndMark}
-use Rattle.rhai_grammar.specs.declared.role.Construct.TheVariants as kind
 use Rattle.rhai_grammar.specs.declared.role.StatementRole.{StatementRole}
 use Rattle.rhai_grammar.specs.declared.role.StatementRole.TheVariants as stands
 use Rattle.rhai_grammar.specs.declared.role.StatementStart.{StatementStart}
 use Rattle.rhai_grammar.specs.declared.role.StatementStart.TheVariants as first
 use Rattle.rhai_reading.specs.Goals as goal
-use Rattle.rhai_reading.specs.Reading.{Goal, Val, Expression, Statement, Statements, ExprStatement, Inside, Block, Script}
-use Rattle.rhai_productions.specs.Schema as S
+use Rattle.rhai_reading.specs.Reading.{Expression, Statement, Statements, ExprStatement, Inside, Block, Script}
 use Rattle.rhai_productions.specs.Derived.{Form, Filled, form, given, take, this, if_so, if_not, choose, here, must}
-use Rattle.rhai_productions.specs.Derived.{knows, adds, part}
+use Rattle.rhai_productions.specs.Derived.{part}
 use Rattle.rhai_productions.specs.Promised.{Written}
 use Rattle.rhai_productions.specs.Rules as P
 use Rattle.rhai_productions.specs.Rules.{production}
