@@ -48,6 +48,7 @@ Meets (Apart inner number captured ▸ rest) s =
     Meets inner (apart s) × HasCaptured number captured (after inner (apart s))
     × Meets rest (with_captured s.captured (after inner (apart s)))
 
+-- Such demands are met.
 meets : (ds : Demands) (s : Point) → Meets ds s → Met ds s (after ds s)
 meets Nothing s m = refl
 meets (Tok by token others ▸ rest) s m = (m.0, meets rest (past by s) m.1)
@@ -74,6 +75,7 @@ error_of (Blames why) at = why
 error_of Fine at = refusal ExprTooDeep at
 error_of Otherwise at = refusal ExprTooDeep at
 
+-- the same of a token, by a test of it
 abbrev error_at : (Lexeme → Verdict) → Item → Refusal
 error_at test token = error_of (verdict test token.lexeme) token.at
 

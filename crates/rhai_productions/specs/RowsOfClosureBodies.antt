@@ -1,4 +1,10 @@
 -- Worked rows of closures and their bodies: lines, their written forms and trees, and what is refused.
+use Rattle.std.specs.Prelude.{List, None, ℕ, [], codes, false, pos, true, ◌++◌, ◌∷◌, ◌≡◌}
+use Rattle.rhai_lower.specs.Lexemes.{Integer, Lexeme, Name, Sign}
+use Rattle.rhai_lower.specs.Nodes.{Node}
+use Rattle.rhai_lower.specs.Nodes as node
+use Rattle.rhai_lower.specs.Positions.{nowhere, place}
+use Rattle.rhai_lower.specs.declared.token.Token.TheVariants as token
 use Rattle.rhai_grammar.specs.Causes.{refusal}
 use Rattle.rhai_grammar.specs.Causes as cause
 use Rattle.rhai_grammar.specs.Closures.{closure_name}
@@ -7,11 +13,6 @@ use Rattle.rhai_grammar.specs.Delivered.{code}
 use Rattle.rhai_grammar.specs.Libraries.{Ended}
 use Rattle.rhai_grammar.specs.Operators.{operator_call}
 use Rattle.rhai_grammar.specs.RowStreams.{between, depth, holding, on_global_level, unread, with_closures}
-use Rattle.rhai_lower.specs.Lexemes.{Integer, Lexeme, Name, Sign}
-use Rattle.rhai_lower.specs.Nodes.{Node}
-use Rattle.rhai_lower.specs.Nodes as node
-use Rattle.rhai_lower.specs.Positions.{nowhere, place}
-use Rattle.rhai_lower.specs.declared.token.Token.TheVariants as token
 use Rattle.rhai_productions.specs.Derived.{apart, captures_here, knows, must, open_form}
 use Rattle.rhai_productions.specs.Promised.{Unwritten, Written, tree_of}
 use Rattle.rhai_productions.specs.RowsOfClosures.{giving, names_at, pointer}
@@ -28,7 +29,6 @@ use Rattle.rhai_productions.specs.WorkedRows.{Fits, Misses, formula, script}
 use Rattle.rhai_productions.specs.WorkedStatements.{block_at, closed, evaluates, first_of, followed_by, last_inside}
 use Rattle.rhai_productions.specs.WorkedStatements.{many, no_more, written_as}
 use Rattle.rhai_productions.specs.WorkedTokens.{arrow, bar, closing_brace, end_mark, opening_brace}
-use Rattle.std.specs.Prelude.{List, None, ℕ, [], codes, false, pos, true, ◌++◌, ◌∷◌, ◌≡◌}
 
 -- ---- `|| {1}.x`: after a body that ends by itself, a dot belongs to the closure
 
@@ -40,7 +40,7 @@ dot_tokens =
 abbrev pub dot_form : Written (formula with_closures)
 dot_form =
     whole (run (bars_then 1 tt [] 0 (doing (block_at 4 (closed (many tt (
-        first_of (evaluates (alone (number 1 5) (closing_brace 6)) tt) tt (last_inside 6))) 6))) (dotted 7 (codes "x")
+    first_of (evaluates (alone (number 1 5) (closing_brace 6)) tt) tt (last_inside 6))) 6))) (dotted 7 (codes "x")
     8 (unlinked (end_mark 9)))) (ends (end_mark 9)))
 
 abbrev pub dot_function : Ended
@@ -87,6 +87,7 @@ empty_function = record {
 abbrev pub no_function : Context
 no_function = record with_closures { sizes = record { array = 0; map = 0; function_depth = 32; functions = 0 } }
 
+-- up to the closure for which there is no room
 abbrev pub empty_refused : Unwritten (formula no_function)
 empty_refused = open_whole (open_operand (Sign token.Or) 1 (open_bars 1 tt no_room))
 
@@ -96,6 +97,7 @@ strict = record (depth 64) { settings = record { flags = 0; options = 80; level 
 abbrev pub use_tokens : List (Lexeme × ℕ)
 use_tokens = (Sign token.Or, 1) ∷ (Name (codes "x"), 4) ∷ []
 
+-- up to the use that is captured, where its name is not known
 abbrev pub use_form : Unwritten (formula strict)
 use_form =
     open_whole (open_operand (Sign token.Or) 1 (open_bars 1 tt (open_form (knows (must (apart _ (names_at
@@ -124,8 +126,8 @@ case_form =
     written_as (
     first_of (switch 1 (alone (number 1 8) (opening_brace 10)) 10 (
     arm_then (bars_alone 12 tt [] 0 (doing (evaluates (run (number 1 15 (bar 17)) (
-      joins_last (bar 17) tt (right (number 2 19 (arrow 21))) (arrow 21))) tt)) (arrow 21)) tt 21 (does tt (evaluates
-      (alone (number 3 24) (closing_brace 26)) tt)) (brace_after 26) (no_arm 26))) tt (followed_by (no_more 27)))
+    joins_last (bar 17) tt (right (number 2 19 (arrow 21))) (arrow 21))) tt)) (arrow 21)) tt 21 (does tt (evaluates
+    (alone (number 3 24) (closing_brace 26)) tt)) (brace_after 26) (no_arm 26))) tt (followed_by (no_more 27)))
 
 abbrev pub case_value : Node
 case_value = operator_call (Sign token.Pipe) (place 1 17) (integer 1 15) (integer 2 19)
@@ -155,11 +157,12 @@ abbrev pub room_for_one : Context
 room_for_one =
     record on_global_level { sizes = record { array = 0; map = 0; function_depth = 32; functions = 1 } }
 
+-- up to the closure for which there is no room
 abbrev pub second_form : Unwritten (script room_for_one)
 second_form =
     open_first (open_declares 1 (open_function (codes "f") 4 (no_parameters 5) 8 (open_many tt (
-      open_first (open_evaluates (Sign token.Or) 10 tt (open_single (open_operand (Sign token.Or) 10
-      (open_bars 10 tt no_room)))) tt)))) tt
+    open_first (open_evaluates (Sign token.Or) 10 tt (open_single (open_operand (Sign token.Or) 10
+    (open_bars 10 tt no_room)))) tt)))) tt
 
 pub record SecondFunctionRow : Type 0 where
   pub many : Misses (script room_for_one) second_form (unread (second_begun ++ second_rest) 16)

@@ -1,4 +1,11 @@
 -- Worked rows of closures and what they capture: lines, their written forms and trees.
+use Rattle.std.specs.Prelude.{List, None, Option, Some, ℕ, [], codes, false, length, map, ◌++◌, ◌∷◌, ◌≡◌}
+use Rattle.rhai_lower.specs.Lexemes.{Lexeme, Name, Sign}
+use Rattle.rhai_lower.specs.Nodes.{Node}
+use Rattle.rhai_lower.specs.Nodes as node
+use Rattle.rhai_lower.specs.Positions.{nowhere, place}
+use Rattle.rhai_lower.specs.Texts.{Text}
+use Rattle.rhai_lower.specs.declared.token.Token.TheVariants as token
 use Rattle.rhai_grammar.specs.Closures.{closure_name, curry}
 use Rattle.rhai_grammar.specs.Contexts.{Context, Live}
 use Rattle.rhai_grammar.specs.Libraries.{Ended}
@@ -8,12 +15,7 @@ use Rattle.rhai_grammar.specs.Starts.{may_be_closure}
 use Rattle.rhai_grammar.specs.Trees.{variable_of}
 use Rattle.rhai_grammar.specs.Uses.{Use}
 use Rattle.rhai_grammar.specs.declared.role.Bars.TheVariants as bars
-use Rattle.rhai_lower.specs.Lexemes.{Lexeme, Name, Sign}
-use Rattle.rhai_lower.specs.Nodes.{Node}
-use Rattle.rhai_lower.specs.Nodes as node
-use Rattle.rhai_lower.specs.Positions.{nowhere, place}
-use Rattle.rhai_lower.specs.Texts.{Text}
-use Rattle.rhai_lower.specs.declared.token.Token.TheVariants as token
+use Rattle.rhai_reading.specs.Reading.{Expression}
 use Rattle.rhai_productions.specs.Promised.{Written, tree_of}
 use Rattle.rhai_productions.specs.RowsOfFunctions.{one_function}
 use Rattle.rhai_productions.specs.RowsOfStatements.{definition, integer, let_tokens}
@@ -23,8 +25,6 @@ use Rattle.rhai_productions.specs.WorkedRows.{Fits, IsTrue, formula, script}
 use Rattle.rhai_productions.specs.WorkedStatements.{evaluates, first_of, last_before, lets, semicolon_then}
 use Rattle.rhai_productions.specs.WorkedStatements.{valued, written_as}
 use Rattle.rhai_productions.specs.WorkedTokens.{end_mark, membership, plus, semicolon}
-use Rattle.rhai_reading.specs.Reading.{Expression}
-use Rattle.std.specs.Prelude.{List, None, Option, Some, ℕ, [], codes, false, length, map, ◌++◌, ◌∷◌, ◌≡◌}
 
 -- names at columns
 abbrev pub names_at : List (Text × ℕ) → List Use
@@ -68,8 +68,8 @@ member_tokens = (Sign token.Or, 1) ∷ (Name (codes "x"), 4) ∷ (Sign token.In,
 abbrev pub member_form : (c : Context) → IsTrue (may_be_closure c bars.Pair) → Written (formula c)
 member_form c so =
     whole (bars_alone 1 so (names_at ((codes "x", 4) ∷ (codes "y", 9) ∷ [])) 0 (doing (evaluates (run
-      (named (codes "x") 4 (membership 6)) (
-      joins_last (membership 6) tt (right (named (codes "y") 9 (end_mark 10))) (end_mark 10))) tt)) (end_mark 10))
+    (named (codes "x") 4 (membership 6)) (
+    joins_last (membership 6) tt (right (named (codes "y") 9 (end_mark 10))) (end_mark 10))) tt)) (end_mark 10))
 
 abbrev pub member_tree : Node
 member_tree = sharing 1 (pointer 0 2 1) ((codes "x", 4, None) ∷ (codes "y", 9, None) ∷ [])
@@ -93,8 +93,8 @@ sum_tokens =
 abbrev pub sum_form : (c : Context) → IsTrue (may_be_closure c bars.List) → Written (formula c)
 sum_form c so =
     whole (parameter_alone 1 (codes "x") 2 3 so (names_at ((codes "y", 9) ∷ [])) 0 (doing (evaluates (run
-      (named (codes "x") 5 (plus 7)) (
-      joins_last (plus 7) tt (right (named (codes "y") 9 (end_mark 10))) (end_mark 10))) tt)) (end_mark 10))
+    (named (codes "x") 5 (plus 7)) (
+    joins_last (plus 7) tt (right (named (codes "y") 9 (end_mark 10))) (end_mark 10))) tt)) (end_mark 10))
 
 abbrev pub sum_function : Ended
 sum_function =
@@ -117,16 +117,18 @@ slot_tokens = let_tokens 1 (codes "x") 5 7 1 9 10 ++ ((Sign token.Or, 12) ∷ (N
 
 -- the closure alone, wherever it stands
 abbrev pub slot_closure : (c : Context) (w : Live) → IsTrue (may_be_closure c bars.Pair) → Written (Expression c w)
-slot_closure c w so =
-    (_, bars_alone 12 so (names_at ((codes "x", 15) ∷ [])) 0 (doing (evaluates
-    (name_alone (codes "x") 15 (end_mark 16)) tt)) (end_mark 16))
+slot_closure c w so = (
+  _,
+  bars_alone 12 so (names_at ((codes "x", 15) ∷ [])) 0 (doing (evaluates
+      (name_alone (codes "x") 15 (end_mark 16)) tt)) (end_mark 16),
+)
 
 abbrev pub slot_form : Written (script with_closures)
 slot_form =
     written_as (
     first_of (lets 1 (valued (codes "x") 5 7 (alone (number 1 9) (semicolon 10)))) tt (semicolon_then 10 (
     first_of (evaluates (bars_alone 12 tt (names_at ((codes "x", 15) ∷ [])) 0 (doing (evaluates
-      (name_alone (codes "x") 15 (end_mark 16)) tt)) (end_mark 16)) tt) tt (last_before 16))))
+    (name_alone (codes "x") 15 (end_mark 16)) tt)) (end_mark 16)) tt) tt (last_before 16))))
 
 abbrev pub slot_value : Node
 slot_value =
@@ -154,7 +156,7 @@ nested_tokens = (Sign token.Or, 1) ∷ (Sign token.Or, 4) ∷ (Name (codes "x"),
 abbrev pub nested_form : Written (formula with_closures)
 nested_form =
     whole (bars_alone 1 tt (names_at ((codes "x", 7) ∷ [])) 1 (doing (evaluates (bars_alone 4 tt (names_at
-      ((codes "x", 7) ∷ [])) 0 (doing (evaluates (name_alone (codes "x") 7 (end_mark 8)) tt)) (end_mark 8)) tt))
+    ((codes "x", 7) ∷ [])) 0 (doing (evaluates (name_alone (codes "x") 7 (end_mark 8)) tt)) (end_mark 8)) tt))
     (end_mark 8))
 
 -- what the outer closure gives, and the inner one

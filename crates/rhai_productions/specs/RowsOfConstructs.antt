@@ -1,16 +1,17 @@
 -- Worked rows of loops and `switch`: lines, their written forms and trees, and what is refused.
-use Rattle.rhai_grammar.specs.Causes.{refusal}
-use Rattle.rhai_grammar.specs.Causes as cause
-use Rattle.rhai_grammar.specs.Contexts.{Context, allows_looping, has_single_blocks, loop_body, nothing_live}
-use Rattle.rhai_grammar.specs.Delivered.{code}
-use Rattle.rhai_grammar.specs.Operators.{operator_call}
-use Rattle.rhai_grammar.specs.RowStreams.{between, depth, unread}
+use Rattle.std.specs.Prelude.{List, None, Some, ℕ, [], codes, false, not, pos, true, ◌++◌, ◌∷◌, ◌≡◌}
 use Rattle.rhai_lower.specs.Lexemes.{Integer, Lexeme, Name, Sign}
 use Rattle.rhai_lower.specs.Nodes.{Node}
 use Rattle.rhai_lower.specs.Nodes as node
 use Rattle.rhai_lower.specs.Positions.{nowhere, place}
 use Rattle.rhai_lower.specs.Slots.{fresh_slot}
 use Rattle.rhai_lower.specs.declared.token.Token.TheVariants as token
+use Rattle.rhai_grammar.specs.Causes.{refusal}
+use Rattle.rhai_grammar.specs.Causes as cause
+use Rattle.rhai_grammar.specs.Contexts.{Context, allows_looping, has_single_blocks, loop_body, nothing_live}
+use Rattle.rhai_grammar.specs.Delivered.{code}
+use Rattle.rhai_grammar.specs.Operators.{operator_call}
+use Rattle.rhai_grammar.specs.RowStreams.{between, depth, unread}
 use Rattle.rhai_productions.specs.Derived.{choose, form, given, if_not, literal_here, must, must_here}
 use Rattle.rhai_productions.specs.Derived.{open_form, part, take, take_here, this}
 use Rattle.rhai_productions.specs.Promised.{Unwritten, Written, tree_of}
@@ -27,7 +28,6 @@ use Rattle.rhai_productions.specs.WorkedStatements.{last_before, last_inside, le
 use Rattle.rhai_productions.specs.WorkedStatements.{valued, without_value, written_as}
 use Rattle.rhai_productions.specs.WorkedTokens.{arrow, case_bar, closing_brace, comma, end_mark, opening_brace, plus}
 use Rattle.rhai_productions.specs.WorkedTokens.{range, semicolon}
-use Rattle.std.specs.Prelude.{List, None, Some, ℕ, [], codes, false, not, pos, true, ◌++◌, ◌∷◌, ◌≡◌}
 
 -- ---- loops
 
@@ -40,16 +40,16 @@ loop_tokens =
     ∷ (Sign token.Plus, 24) ∷ (Name (codes "i"), 26) ∷ (Sign token.RightBrace, 28) ∷ []
 
 -- under a context in which loops are allowed, and a block has statements
-abbrev pub loop_form : (c : Context) → IsTrue (allows_looping c) → IsTrue (not (has_single_blocks (loop_body c))) →
-    Written (script c)
+abbrev pub loop_form : (c : Context) → IsTrue (allows_looping c) → IsTrue (not (has_single_blocks (loop_body c)))
+    → Written (script c)
 loop_form c loops so =
     written_as (
     first_of (for_each 1 loops (two_names 5 (codes "a") 6 7 (codes "i") 9 10 12) (run (number 0 15 (range 16)) (
     joins_last (range 16) tt (right_of_range (number 3 18 (opening_brace 20)) tt) (opening_brace 20))) (braced 20
     (closed (many so (
-      first_of (evaluates (run (named (codes "a") 22 (plus 24)) (
-      joins_last (plus 24) tt (right (named (codes "i") 26 (closing_brace 28))) (closing_brace 28))) tt) tt
-      (last_inside 28))) 28))) tt (followed_by (no_more 29)))
+    first_of (evaluates (run (named (codes "a") 22 (plus 24)) (
+    joins_last (plus 24) tt (right (named (codes "i") 26 (closing_brace 28))) (closing_brace 28))) tt) tt
+    (last_inside 28))) 28))) tt (followed_by (no_more 29)))
 
 abbrev pub looped_block : node.Block
 looped_block =
@@ -81,6 +81,7 @@ break_rest = (Sign token.SemiColon, 6) ∷ []
 abbrev pub break_tokens : List (Lexeme × ℕ)
 break_tokens = break_begun ++ break_rest
 
+-- up to the `break`, outside of a loop
 abbrev pub break_refused : Unwritten (script (depth 64))
 break_refused =
     open_first (open_form (choose (Sign token.Break) (place 1 1) (this (Sign token.Break) (place 1 1) must_here))) tt
@@ -94,8 +95,7 @@ break_form = written_as (first_of (breaks 1 tt without_value) tt (semicolon_then
 
 pub record BreakRow : Type 0 where
   pub missed : Misses (script (depth 64)) break_refused (unread break_tokens 7) (refusal cause.LoopBreak (place 1 1))
-      code
-      (between break_begun break_rest 7)
+      code (between break_begun break_rest 7)
   pub fits : Fits (script in_loop) break_form (unread break_tokens 7) (between break_tokens [] 7)
 
 -- ---- `switch`
@@ -120,7 +120,7 @@ arm_form =
     first_of (lets 1 (valued (codes "x") 5 7 (alone (number 1 9) (semicolon 10)))) tt (semicolon_then 10 (
     first_of (switch 12 (alone (number 1 19) (opening_brace 21)) 21 (
     arm_then (alone (number 1 23) (arrow 25)) tt 25 (does tt (lets 28 (valued (codes "y") 32 34
-      (alone (number 2 36) (closing_brace 38))))) (brace_after 38) (no_arm 38))) tt (followed_by (
+    (alone (number 2 36) (closing_brace 38))))) (brace_after 38) (no_arm 38))) tt (followed_by (
     first_of (evaluates (name_alone (codes "x") 40 (end_mark 41)) tt) tt (last_before 41))))))
 
 abbrev pub arm_action : Node
@@ -153,6 +153,7 @@ abbrev pub default_rest : List (Lexeme × ℕ)
 default_rest =
     (Integer (pos 3), 20) ∷ (Sign token.DoubleArrow, 22) ∷ (Integer (pos 4), 25) ∷ (Sign token.RightBrace, 27) ∷ []
 
+-- up to the arm after the default arm
 abbrev pub default_form : Unwritten (script (depth 64))
 default_form =
     open_first (open_switch 1 (alone (number 1 8) (opening_brace 10)) 10 (open_form (choose (Sign token.Underscore)
@@ -183,6 +184,7 @@ integer_rest = (Sign token.RightBrace, 30) ∷ []
 abbrev pub integer_begun : List (Lexeme × ℕ)
 integer_begun = range_case ++ range_action ++ integer_action
 
+-- up to the action of the second arm, after which its case is refused
 abbrev pub integer_form : Unwritten (script (depth 64))
 integer_form =
     open_first (open_switch 1 (name_alone (codes "x") 8 (opening_brace 10)) 10 (open_form (choose (Integer (pos 0))
@@ -209,6 +211,7 @@ pipe_rest =
     (Sign token.Pipe, 15) ∷ (Integer (pos 2), 17) ∷ (Sign token.RightParen, 18) ∷ (Sign token.DoubleArrow, 20)
     ∷ (Integer (pos 3), 23) ∷ (Sign token.RightBrace, 25) ∷ []
 
+-- up to the `)` that is missing
 abbrev pub pipe_form : Unwritten (script (depth 64))
 pipe_form =
     open_first (open_switch 1 (alone (number 1 8) (opening_brace 10)) 10 (open_form (choose (Sign token.LeftParen)

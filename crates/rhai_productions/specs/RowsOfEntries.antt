@@ -1,4 +1,11 @@
 -- Worked rows under a new engine's settings, which are what it hands over at its two entries.
+use Rattle.std.specs.Prelude.{List, None, ℕ, [], codes, false, ◌++◌, ◌∷◌, ◌≡◌}
+use Rattle.rhai_lower.specs.Lexemes.{Interpolated, Lexeme, Name, Sign, String}
+use Rattle.rhai_lower.specs.Nodes.{Node}
+use Rattle.rhai_lower.specs.Nodes as node
+use Rattle.rhai_lower.specs.Positions.{place}
+use Rattle.rhai_lower.specs.Slots.{fresh_slot}
+use Rattle.rhai_lower.specs.declared.token.Token.TheVariants as token
 use Rattle.rhai_grammar.specs.Causes.{Refusal, refusal}
 use Rattle.rhai_grammar.specs.Causes as cause
 use Rattle.rhai_grammar.specs.Contexts.{Context, has_single_blocks, nothing_live}
@@ -6,12 +13,6 @@ use Rattle.rhai_grammar.specs.Delivered.{code, past, text}
 use Rattle.rhai_grammar.specs.EntryContexts.{at_entry, entry_expression, entry_script}
 use Rattle.rhai_grammar.specs.Libraries.{Ended, Library}
 use Rattle.rhai_grammar.specs.RowStreams.{between, holding, unread}
-use Rattle.rhai_lower.specs.Lexemes.{Interpolated, Lexeme, Name, Sign, String}
-use Rattle.rhai_lower.specs.Nodes.{Node}
-use Rattle.rhai_lower.specs.Nodes as node
-use Rattle.rhai_lower.specs.Positions.{place}
-use Rattle.rhai_lower.specs.Slots.{fresh_slot}
-use Rattle.rhai_lower.specs.declared.token.Token.TheVariants as token
 use Rattle.rhai_productions.specs.Derived.{apart_here, choose, form, given, if_not, knows, must, open_form, part}
 use Rattle.rhai_productions.specs.Derived.{part_here, take, text_here, this}
 use Rattle.rhai_productions.specs.Promised.{Unwritten, Written, tree_of}
@@ -33,7 +34,6 @@ use Rattle.rhai_productions.specs.WorkedOpenStatements.{refused_function}
 use Rattle.rhai_productions.specs.WorkedRows.{Fits, IsTrue, Misses, formula, script}
 use Rattle.rhai_productions.specs.WorkedStatements.{closed, many, no_more_inside, one, single}
 use Rattle.rhai_productions.specs.WorkedTokens.{closing_brace, end_mark}
-use Rattle.std.specs.Prelude.{List, None, ℕ, [], codes, false, ◌++◌, ◌∷◌, ◌≡◌}
 
 -- An expression has this tree, fits at its entry, and spells these tokens; these functions end in it.
 pub record EntersExpression (f : Written (formula (entry_expression 64))) (tokens : List (Lexeme × ℕ)) (end : ℕ)
@@ -112,6 +112,7 @@ inner_begun = bar_tokens 1 (codes "x") 2 3 ++ ((Sign token.Pipe, 5) ∷ [])
 abbrev pub inner_rest : List (Lexeme × ℕ)
 inner_rest = (Name (codes "y"), 6) ∷ (Sign token.Pipe, 7) ∷ (Name (codes "y"), 9) ∷ []
 
+-- up to the inner closure, for which there is no room
 abbrev pub inner_form : Unwritten (formula (at_entry 17 179 64 1))
 inner_form =
     open_whole (open_operand (Sign token.Pipe) 1 (choose (Sign token.Pipe) (place 1 1) (open_part (choose
@@ -129,6 +130,7 @@ returned_begun = (Sign token.Return, 1) ∷ (Sign token.Pipe, 8) ∷ []
 abbrev pub returned_rest : List (Lexeme × ℕ)
 returned_rest = (Name (codes "x"), 9) ∷ (Sign token.Pipe, 10) ∷ (Name (codes "x"), 12) ∷ []
 
+-- up to the closure for which there is no room
 abbrev pub returned_form : Unwritten (script (at_entry 1 191 64 0))
 returned_form =
     open_first (open_return 1 (open_jump (open_operand (Sign token.Pipe) 8 (choose (Sign token.Pipe) (place 1 8)
@@ -156,14 +158,14 @@ pub record LoopEnters : Type 0 where
 abbrev pub string_form : (c : Context) → IsTrue (has_single_blocks c) → Written (formula c)
 string_form c so =
     whole (alone (interpolated (codes "a") 1 (last_segment 3 (one so (single (name_alone (codes "b") 4
-      (closing_brace 5)))) 5 (codes "c") 7)) (end_mark 8))
+    (closing_brace 5)))) 5 (codes "c") 7)) (end_mark 8))
 
 abbrev pub string_begun_form : (c : Context) → IsTrue (has_single_blocks c) → Unwritten (formula c)
 string_begun_form c so =
     open_whole (open_operand (Interpolated (codes "a")) 1 (choose (Interpolated (codes "a")) (place 1 1) (open_part
     (choose (Interpolated (codes "a")) (place 1 1) (this (Interpolated (codes "a")) (place 1 1) (must (open_part (part
     _ (form (take (Sign token.LeftBrace) (place 1 3) given)) (must (part _ (one so (single (name_alone (codes "b") 4
-      (closing_brace 5)))) (open_part (text_here (place 1 5)))))))))))))
+    (closing_brace 5)))) (open_part (text_here (place 1 5)))))))))))))
 
 pub record StringEnters : Type 0 where
   pub tree_is : tree_of (formula (entry_expression 64)) (string_form (entry_expression 64) tt) ≡ string.string_tree
@@ -203,6 +205,7 @@ first_function = record {
 abbrev pub equal_tokens : List (Lexeme × ℕ)
 equal_tokens = empty_tokens 1 4 5 8 9 ++ empty_tokens 11 14 15 18 19
 
+-- up to the end of the second function
 abbrev pub equal_form : Unwritten (script entry_script)
 equal_form =
     open_next (declares 1 (function (headed (codes "f") 4 (no_parameters 5) 8 (closed (many tt (no_more_inside 9))

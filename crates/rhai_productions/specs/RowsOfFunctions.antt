@@ -1,14 +1,15 @@
 -- Worked rows of functions: lines, their written forms, and what is refused.
+use Rattle.std.specs.Prelude.{List, None, ℕ, [], codes, false, ◌++◌, ◌∷◌, ◌≡◌}
+use Rattle.rhai_lower.specs.Lexemes.{Comment, Lexeme, Name, Sign}
+use Rattle.rhai_lower.specs.Nodes as node
+use Rattle.rhai_lower.specs.Positions.{place}
+use Rattle.rhai_lower.specs.declared.token.Token.TheVariants as token
 use Rattle.rhai_grammar.specs.Causes.{refusal}
 use Rattle.rhai_grammar.specs.Causes as cause
 use Rattle.rhai_grammar.specs.Contexts.{Context}
 use Rattle.rhai_grammar.specs.Delivered.{code}
 use Rattle.rhai_grammar.specs.Libraries.{Ended}
 use Rattle.rhai_grammar.specs.RowStreams.{between, holding, on_global_level, unread}
-use Rattle.rhai_lower.specs.Lexemes.{Comment, Lexeme, Name, Sign}
-use Rattle.rhai_lower.specs.Nodes as node
-use Rattle.rhai_lower.specs.Positions.{place}
-use Rattle.rhai_lower.specs.declared.token.Token.TheVariants as token
 use Rattle.rhai_productions.specs.Derived.{choose, form, given, if_not, must, must_here, open_form, part, this}
 use Rattle.rhai_productions.specs.Promised.{Unwritten, Written, tree_of}
 use Rattle.rhai_productions.specs.RowsOfStatements.{variable}
@@ -22,7 +23,6 @@ use Rattle.rhai_productions.specs.WorkedRows.{Fits, Misses, script}
 use Rattle.rhai_productions.specs.WorkedStatements.{closed, evaluates, first_of, followed_by, last_inside, many}
 use Rattle.rhai_productions.specs.WorkedStatements.{no_more, no_more_inside, written_as}
 use Rattle.rhai_productions.specs.WorkedTokens.{closing_brace}
-use Rattle.std.specs.Prelude.{List, None, ℕ, [], codes, false, ◌++◌, ◌∷◌, ◌≡◌}
 
 -- `fn f(a) { a }`
 abbrev pub function_begun : List (Lexeme × ℕ)
@@ -46,7 +46,7 @@ abbrev pub function_form : (limit : ℕ) → Written (script (depth_of_functions
 function_form limit =
     written_as (
     first_of (declares 1 (function (headed (codes "f") 4 (one_parameter 5 (codes "a") 6 7) 9 (closed (many tt (
-      first_of (evaluates (name_alone (codes "a") 11 (closing_brace 13)) tt) tt (last_inside 13))) 13)))) tt
+    first_of (evaluates (name_alone (codes "a") 11 (closing_brace 13)) tt) tt (last_inside 13))) 13)))) tt
     (followed_by (no_more 14)))
 
 -- the function of one parameter, to which its body refers by its slot
@@ -69,12 +69,13 @@ abbrev pub function_again : Unwritten (script (depth_of_functions 4))
 function_again =
     open_first (open_declares 1 (refused_function (headed (codes "f") 4 (one_parameter 5 (codes "a") 6 7) 9 (closed
     (many tt (
-      first_of (evaluates (name_alone (codes "a") 11 (closing_brace 13)) tt) tt (last_inside 13))) 13)))) tt
+    first_of (evaluates (name_alone (codes "a") 11 (closing_brace 13)) tt) tt (last_inside 13))) 13)))) tt
 
+-- up to the name in the body, which is too deep
 abbrev pub function_deep : Unwritten (script (depth_of_functions 3))
 function_deep =
     open_first (open_declares 1 (open_function (codes "f") 4 (one_parameter 5 (codes "a") 6 7) 9 (open_many tt (
-      open_first (open_evaluates (Name (codes "a")) 11 tt (open_single (too_deep (Name (codes "a")) 11))) tt)))) tt
+    open_first (open_evaluates (Name (codes "a")) 11 tt (open_single (too_deep (Name (codes "a")) 11))) tt)))) tt
 
 -- The script has the function and no statements. Where a function of that name and number of parameters has ended
 -- before, this one is refused at its `fn`, after its body. Under the depth limit 3 for functions the `a` of the body is
@@ -133,8 +134,8 @@ comment_before_end =
 abbrev pub comment_in_block : Unwritten (script on_global_level)
 comment_in_block =
     open_first (open_block_at 1 (open_many tt (
-      open_first (open_form (choose (Comment (codes "/** a */")) (place 1 3) (this (Comment (codes "/** a */"))
-      (place 1 3) must_here))) tt))) tt
+    open_first (open_form (choose (Comment (codes "/** a */")) (place 1 3) (this (Comment (codes "/** a */"))
+    (place 1 3) must_here))) tt))) tt
 
 -- The function has the comment. Before another statement or the end mark that is refused, and at once where a block's
 -- statement begins.

@@ -1,4 +1,9 @@
 -- Worked rows of calls and arrays: lines, their written forms and trees, and what is refused.
+use Rattle.std.specs.Prelude.{List, None, ℕ, [], codes, false, pos, ◌++◌, ◌∷◌, ◌≡◌}
+use Rattle.rhai_lower.specs.Lexemes.{Integer, Lexeme, Name, Sign}
+use Rattle.rhai_lower.specs.Nodes as node
+use Rattle.rhai_lower.specs.Positions.{place}
+use Rattle.rhai_lower.specs.declared.token.Token.TheVariants as token
 use Rattle.rhai_grammar.specs.Causes.{Refusal, refusal}
 use Rattle.rhai_grammar.specs.Causes as cause
 use Rattle.rhai_grammar.specs.Contexts.{Context}
@@ -6,10 +11,6 @@ use Rattle.rhai_grammar.specs.Delivered.{code}
 use Rattle.rhai_grammar.specs.Literals.{too_many_items}
 use Rattle.rhai_grammar.specs.RowStreams.{between, depth, unread}
 use Rattle.rhai_grammar.specs.Trees.{function_called, named_by, variable_of}
-use Rattle.rhai_lower.specs.Lexemes.{Integer, Lexeme, Name, Sign}
-use Rattle.rhai_lower.specs.Nodes as node
-use Rattle.rhai_lower.specs.Positions.{place}
-use Rattle.rhai_lower.specs.declared.token.Token.TheVariants as token
 use Rattle.rhai_productions.specs.Derived.{choose, never_here, open_form}
 use Rattle.rhai_productions.specs.Promised.{Unwritten, Written, tree_of}
 use Rattle.rhai_productions.specs.WorkedForms.{alone, number, whole}
@@ -18,7 +19,6 @@ use Rattle.rhai_productions.specs.WorkedOpenForms.{deep_arguments, open_argument
 use Rattle.rhai_productions.specs.WorkedOpenForms.{open_operand, open_whole, too_deep}
 use Rattle.rhai_productions.specs.WorkedRows.{Fits, Misses, formula}
 use Rattle.rhai_productions.specs.WorkedTokens.{closing_paren, comma, end_mark}
-use Rattle.std.specs.Prelude.{List, None, ℕ, [], codes, false, pos, ◌++◌, ◌∷◌, ◌≡◌}
 
 -- `f(1)` fits under the depth limit 3. Under the limit 2 the argument is too deep, and under the limit 1 the list of
 -- arguments, at its name.
@@ -35,11 +35,13 @@ abbrev pub call_form : (c : Context) → Written (formula c)
 call_form c =
     whole (alone (called (codes "f") 1 2 (last_argument (alone (number 1 3) (closing_paren 4)) 4)) (end_mark 5))
 
+-- up to the argument, which is too deep under the limit 2
 abbrev pub call_argument_deep : (c : Context) → Unwritten (formula c)
 call_argument_deep c =
     open_whole (open_operand (Name (codes "f")) 1 (open_call (codes "f") 1 2 (open_argument (too_deep (Integer (pos 1))
     3))))
 
+-- up to the list, which is too deep under the limit 1
 abbrev pub call_list_deep : (c : Context) → Unwritten (formula c)
 call_list_deep c = open_whole (open_operand (Name (codes "f")) 1 (open_call (codes "f") 1 2 deep_arguments))
 
@@ -56,8 +58,8 @@ pub record CallRow : Type 0 where
 -- `[1, 2, 3]`: where an array has at most two items, the third is one too many.
 abbrev pub sized_begun : List (Lexeme × ℕ)
 sized_begun =
-    (Sign token.LeftBracket, 1) ∷ (Integer (pos 1), 2) ∷ (Sign token.Comma, 3) ∷ (Integer (pos 2), 5) ∷
-    (Sign token.Comma, 6) ∷ []
+    (Sign token.LeftBracket, 1) ∷ (Integer (pos 1), 2) ∷ (Sign token.Comma, 3) ∷ (Integer (pos 2), 5)
+    ∷ (Sign token.Comma, 6) ∷ []
 
 abbrev pub sized_rest : List (Lexeme × ℕ)
 sized_rest = (Integer (pos 3), 8) ∷ (Sign token.RightBracket, 9) ∷ []
@@ -66,6 +68,7 @@ sized_rest = (Integer (pos 3), 8) ∷ (Sign token.RightBracket, 9) ∷ []
 abbrev pub two_items : Context
 two_items = record (depth 64) { sizes = record { array = 2; map = 0; function_depth = 32; functions = 100 } }
 
+-- up to the item that is one too many
 abbrev pub sized_form : Unwritten (formula two_items)
 sized_form =
     open_whole (open_operand (Sign token.LeftBracket) 1 (open_array 1 (

@@ -1,12 +1,13 @@
 -- Worked rows of modules: scripts, their written forms, and their trees.
-use Rattle.rhai_grammar.specs.Contexts.{Context}
-use Rattle.rhai_grammar.specs.RowStreams.{between, depth, on_global_level, unread}
+use Rattle.std.specs.Prelude.{Bool, List, None, Option, Some, ℕ, [], codes, false, true, ◌++◌, ◌∷◌, ◌≡◌}
 use Rattle.rhai_lower.specs.Lexemes.{Lexeme, Name, Sign, String}
 use Rattle.rhai_lower.specs.Nodes as node
 use Rattle.rhai_lower.specs.Positions.{nowhere, place}
 use Rattle.rhai_lower.specs.Slots.{fresh_slot}
 use Rattle.rhai_lower.specs.Texts.{Text}
 use Rattle.rhai_lower.specs.declared.token.Token.TheVariants as token
+use Rattle.rhai_grammar.specs.Contexts.{Context}
+use Rattle.rhai_grammar.specs.RowStreams.{between, depth, on_global_level, unread}
 use Rattle.rhai_productions.specs.Promised.{Written, tree_of}
 use Rattle.rhai_productions.specs.WorkedForms.{alone, quoted}
 use Rattle.rhai_productions.specs.WorkedLists.{path_called}
@@ -14,7 +15,6 @@ use Rattle.rhai_productions.specs.WorkedRows.{Fits, script}
 use Rattle.rhai_productions.specs.WorkedStatements.{bare, evaluates, exports, first_of, imports, last_before}
 use Rattle.rhai_productions.specs.WorkedStatements.{lets, semicolon_then, written_as}
 use Rattle.rhai_productions.specs.WorkedTokens.{as_word, end_mark, semicolon}
-use Rattle.std.specs.Prelude.{Bool, List, None, Option, Some, ℕ, [], codes, false, true, ◌++◌, ◌∷◌, ◌≡◌}
 
 -- ---- two imports of one name
 

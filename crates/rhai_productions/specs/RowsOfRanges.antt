@@ -1,4 +1,10 @@
 -- Worked rows of ranges: lines, their written forms and trees, and what is refused.
+use Rattle.std.specs.Prelude.{List, ℕ, [], pos, ◌∷◌, ◌≡◌}
+use Rattle.rhai_lower.specs.Lexemes.{Integer, Lexeme, Sign}
+use Rattle.rhai_lower.specs.Nodes.{Node}
+use Rattle.rhai_lower.specs.Nodes as node
+use Rattle.rhai_lower.specs.Positions.{place}
+use Rattle.rhai_lower.specs.declared.token.Token.TheVariants as token
 use Rattle.rhai_grammar.specs.Causes.{refusal}
 use Rattle.rhai_grammar.specs.Causes as cause
 use Rattle.rhai_grammar.specs.Contexts.{Context}
@@ -6,11 +12,6 @@ use Rattle.rhai_grammar.specs.Delivered.{code}
 use Rattle.rhai_grammar.specs.Literals.{item_role}
 use Rattle.rhai_grammar.specs.Operators.{operator_call}
 use Rattle.rhai_grammar.specs.RowStreams.{between, depth, unread}
-use Rattle.rhai_lower.specs.Lexemes.{Integer, Lexeme, Sign}
-use Rattle.rhai_lower.specs.Nodes.{Node}
-use Rattle.rhai_lower.specs.Nodes as node
-use Rattle.rhai_lower.specs.Positions.{place}
-use Rattle.rhai_lower.specs.declared.token.Token.TheVariants as token
 use Rattle.rhai_productions.specs.Derived.{choose, never_here, open_form}
 use Rattle.rhai_productions.specs.Promised.{Unwritten, Written, tree_of}
 use Rattle.rhai_productions.specs.WorkedForms.{alone, joins_last, minus, number, right, right_of_range, run}
@@ -19,7 +20,6 @@ use Rattle.rhai_productions.specs.WorkedLists.{IsItem, last_element, listed}
 use Rattle.rhai_productions.specs.WorkedOpenForms.{open_part, open_right, open_run, open_whole}
 use Rattle.rhai_productions.specs.WorkedRows.{Fits, Misses, formula}
 use Rattle.rhai_productions.specs.WorkedTokens.{closing_bracket, end_mark, range}
-use Rattle.std.specs.Prelude.{List, ℕ, [], pos, ◌∷◌, ◌≡◌}
 
 -- a range from an omitted zero to 5, both at these columns
 abbrev pub range_tree : (left range right : ℕ) → Node
@@ -57,6 +57,7 @@ pub record MinusRow : Type 0 where
 abbrev pub ended_tokens : List (Lexeme × ℕ)
 ended_tokens = (Integer (pos 5), 1) ∷ (Sign token.ExclusiveRange, 2) ∷ []
 
+-- up to the operand that is missing
 abbrev pub ended_range : (c : Context) → Unwritten (formula c)
 ended_range c =
     open_whole (open_run (number 5 1 (range 2)) (

@@ -1,15 +1,16 @@
 -- Worked rows of interpolated strings and jumps: lines, their written forms and trees, and what is refused.
+use Rattle.std.specs.Prelude.{List, None, ℕ, [], codes, false, not, pos, reverse, ◌++◌, ◌∷◌, ◌≡◌}
+use Rattle.rhai_lower.specs.Lexemes.{Faulty, Integer, Interpolated, Lexeme, Name, Sign, String, UnexpectedInput}
+use Rattle.rhai_lower.specs.Nodes.{Node, no_nodes, no_statements, one_node, one_statement}
+use Rattle.rhai_lower.specs.Nodes as node
+use Rattle.rhai_lower.specs.Positions.{place}
+use Rattle.rhai_lower.specs.declared.token.Token.TheVariants as token
 use Rattle.rhai_grammar.specs.Causes.{Refusal, refusal}
 use Rattle.rhai_grammar.specs.Causes as cause
 use Rattle.rhai_grammar.specs.Contexts.{Context, has_single_blocks}
 use Rattle.rhai_grammar.specs.Delivered.{Ends, Point, Then, Tokens, code, item, past, text}
 use Rattle.rhai_grammar.specs.RowStreams.{between, depth, taken_from, unread}
 use Rattle.rhai_grammar.specs.Trees.{variable_of}
-use Rattle.rhai_lower.specs.Lexemes.{Faulty, Integer, Interpolated, Lexeme, Name, Sign, String, UnexpectedInput}
-use Rattle.rhai_lower.specs.Nodes.{Node, no_nodes, no_statements, one_node, one_statement}
-use Rattle.rhai_lower.specs.Nodes as node
-use Rattle.rhai_lower.specs.Positions.{place}
-use Rattle.rhai_lower.specs.declared.token.Token.TheVariants as token
 use Rattle.rhai_productions.specs.Derived.{choose, form, given, must, never_here, open_form, part, part_here, take}
 use Rattle.rhai_productions.specs.Derived.{text_here, this}
 use Rattle.rhai_productions.specs.Promised.{Unwritten, Written, tree_of}
@@ -22,7 +23,6 @@ use Rattle.rhai_productions.specs.WorkedRows.{Fits, IsTrue, Misses, formula, scr
 use Rattle.rhai_productions.specs.WorkedStatements.{evaluates, first_of, last_inside, many, returns, with_value}
 use Rattle.rhai_productions.specs.WorkedStatements.{without_value}
 use Rattle.rhai_productions.specs.WorkedTokens.{closing_brace, coalesce, end_mark}
-use Rattle.std.specs.Prelude.{List, None, ℕ, [], codes, false, not, pos, reverse, ◌++◌, ◌∷◌, ◌≡◌}
 
 -- ---- interpolated strings
 
@@ -61,7 +61,7 @@ string_stream l = record { tokens = before string_begun (in_text_alone l 7 8); t
 abbrev pub string_form : (c : Context) → IsTrue (not (has_single_blocks c)) → Written (formula c)
 string_form c so =
     whole (alone (interpolated (codes "a") 1 (last_segment 3 (many so (
-      first_of (evaluates (name_alone (codes "b") 4 (closing_brace 5)) tt) tt (last_inside 5))) 5 (codes "c") 7))
+    first_of (evaluates (name_alone (codes "b") 4 (closing_brace 5)) tt) tt (last_inside 5))) 5 (codes "c") 7))
     (end_mark 8))
 
 -- the same up to the last text, in place of which another token stands
@@ -70,7 +70,7 @@ string_begun_form limit =
     open_whole (open_operand (Interpolated (codes "a")) 1 (choose (Interpolated (codes "a")) (place 1 1) (open_part
     (choose (Interpolated (codes "a")) (place 1 1) (this (Interpolated (codes "a")) (place 1 1) (must (open_part (part
     _ (form (take (Sign token.LeftBrace) (place 1 3) given)) (must (part _ (many tt (
-      first_of (evaluates (name_alone (codes "b") 4 (closing_brace 5)) tt) tt (last_inside 5))) (open_part
+    first_of (evaluates (name_alone (codes "b") 4 (closing_brace 5)) tt) tt (last_inside 5))) (open_part
     (text_here (place 1 5)))))))))))))
 
 abbrev pub string_block : node.Block
@@ -121,12 +121,14 @@ jump_tree =
     one_node (node.block_value (node.block_of_one (
     node.return_statement (node.present (integer 1 13)) false (place 1 6)))) no_nodes)) (place 1 3)
 
+-- up to the value, which is too deep under the limit 2
 abbrev pub jump_value_deep : Unwritten (formula (depth 2))
 jump_value_deep =
     open_whole (open_run (named (codes "a") 1 (coalesce 3)) (
     open_right (coalesce 3) tt (open_form (choose (Sign token.Return) (place 1 6) (part_here (open_return 6 (open_jump
     (too_deep (Integer (pos 1)) 13))))))))
 
+-- up to the `return`, which is too deep under the limit 1
 abbrev pub jump_deep : Unwritten (formula (depth 1))
 jump_deep =
     open_whole (open_run (named (codes "a") 1 (coalesce 3)) (
@@ -148,6 +150,7 @@ return_begun = (Sign token.Return, 1) ∷ []
 abbrev pub return_rest : List (Lexeme × ℕ)
 return_rest = (Sign token.RightParen, 8) ∷ []
 
+-- up to the `;` that is missing
 abbrev pub return_form : Unwritten (script (depth 64))
 return_form = open_next (returns 1 without_value) tt (choose (Sign token.RightParen) (place 1 8) never_here)
 

@@ -36,12 +36,14 @@ abbrev pub linked : {c : Context} {w : Live} {x : Node} {ls : List Link} → For
     → Filled production (Operand c w) (P.operand_by c w begin.Value) (chained x ls)
 linked f links = part _ f (part _ (form (if_not (if_not given))) (part _ links (must given)))
 
+-- a number without links
 abbrev pub number : {c : Context} {w : Live} {o : Option (ℕ × Bool)} (n column : ℕ) → After c.filter o
     → Form production (Operand c w) (node.integer (pos n) (place 1 column))
 number n column t =
     form (choose (Integer (pos n)) (place 1 column) (linked (form (choose (Integer (pos n)) (place 1 column) (
     this (Integer (pos n)) (place 1 column) given))) (unlinked t)))
 
+-- a string without links
 abbrev pub quoted : {c : Context} {w : Live} {o : Option (ℕ × Bool)} (text : Text) (column : ℕ) → After c.filter o
     → Form production (Operand c w) (node.string text (place 1 column))
 quoted text column t =
@@ -54,6 +56,7 @@ abbrev pub name_before : {c : Context} {w : Live} (name : Text) (column : ℕ) (
 name_before name column l at =
     form (choose (Name name) (place 1 column) (this (Name name) (place 1 column) (uses l (place 1 at) given)))
 
+-- a name without links, which is not called
 abbrev pub named : {c : Context} {w : Live} {o : Option (ℕ × Bool)} (name : Text) (column : ℕ) (t : After c.filter o)
     → Form production (Operand c w) (name_tree w.slots (excludes_use t.token) name (place 1 column))
 named name column t =
@@ -142,10 +145,12 @@ abbrev pub right : {c : Context} {w : Live} {x : Node} → Form production (Oper
     → Form production (RightOperand c w Elsewhere) x
 right f = form (choose (front f).0 (front f).1 (part _ f given))
 
+-- an operand is written there
 abbrev pub IsWritten : OperandStart → Type 0
 IsWritten first.Written = Unit {0}
 IsWritten _ = ⊥
 
+-- where an operand is written
 abbrev operand_there : {c : Context} {w : Live} {place : OperandRole} {x : Node} (start : OperandStart)
     → IsWritten start → Filled production (RightOperand c w place) (P.right_by c w first.Written) x
     → Filled production (RightOperand c w place) (P.right_by c w start) x
@@ -159,10 +164,12 @@ abbrev pub right_of_range : {c : Context} {w : Live} {x : Node} (f : Form produc
 right_of_range f so =
     form (choose (front f).0 (front f).1 (operand_there (operand_start AfterRange (front f).0) so (part _ f given)))
 
+-- a jump stands there
 abbrev pub IsJump : OperandStart → Type 0
 IsJump first.Jump = Unit {0}
 IsJump _ = ⊥
 
+-- where a jump stands
 abbrev jump_there : {c : Context} {w : Live} {place : OperandRole} {x : Node} (start : OperandStart) → IsJump start
     → Filled production (RightOperand c w place) (P.right_by c w first.Jump) x
     → Filled production (RightOperand c w place) (P.right_by c w start) x

@@ -83,6 +83,7 @@ path_called root column colons name at pair t =
     take (Name name) (place 1 at) (if_not given)))) (if_so (part _ (form (choose (Sign token.Unit) (place 1 pair) (
     this (Sign token.Unit) (place 1 pair) given))) (must given)))))) (part _ (unlinked t) (must given)))))
 
+-- an item of an array begins there
 abbrev pub IsItem : ItemRole → Type 0
 IsItem item.Item = Unit {0}
 IsItem _ = ⊥

@@ -33,6 +33,7 @@ use Rattle.rhai_productions.specs.WorkedStatements.{IsExpression, IsStatement}
 abbrev pub open_begun : {c : Context} {w : Live} → Open production (Statement c w) → Lexeme × Position
 open_begun (open_form (choose l at f)) = (l, at)
 
+-- where a statement of a list begins
 abbrev statement_there : {closing : Closing} {c : Context} {w : Live} {before : node.Statements} (role : StatementRole)
     → IsStatement role
     → Stopped production (Statements closing c w before) (P.statements closing c w before stands.Statement)
@@ -77,6 +78,7 @@ open_followed rest = part_here rest
 
 -- ---- statements
 
+-- where an expression or assignment begins
 abbrev expression_there : {c : Context} {w : Live} (v : StatementStart) → IsExpression v
     → Stopped production (Statement c w) (P.statement_by c w first.Expression)
     → Stopped production (Statement c w) (P.statement_by c w v)
@@ -136,6 +138,7 @@ abbrev pub open_jump : {c : Context} {w : Live} {at : Position} → Open product
     → Open production (goal.Jump c w at)
 open_jump f = open_form (if_so (must (part_here f)))
 
+-- a `return` whose value is too deep or open
 abbrev pub open_return : {c : Context} {w : Live} (at : ℕ) → Open production (goal.Jump c w (place 1 at))
     → Open production (Statement c w)
 open_return at f =
@@ -143,6 +146,7 @@ open_return at f =
 
 -- ---- blocks
 
+-- where a block has statements
 abbrev inside_as : {c : Context} {w : Live} (b : Bool) → IsTrue (not b)
     → Stopped production (Inside c w) (P.inside_by c w false) → Stopped production (Inside c w) (P.inside_by c w b)
 inside_as false so f = f
@@ -188,6 +192,7 @@ abbrev pub refused_function : {c : Context} {w : Live} {comments : List Comment}
     → Open production (goal.FunctionStatement c w comments first at is_private)
 refused_function f = open_form (must (knows (must (part _ f knows_here))))
 
+-- a function as a statement, which is open or refused
 abbrev pub open_declares : {c : Context} {w : Live} (at : ℕ)
     → Open production (goal.FunctionStatement c w [] (place 1 at) (place 1 at) false)
     → Open production (Statement c w)

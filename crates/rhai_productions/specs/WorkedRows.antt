@@ -32,6 +32,7 @@ pub record Misses (g : Goal) (f : Unwritten g) (start : Point) (error : Refusal)
 
 -- ---- tests that hold
 
+-- a test holds
 abbrev pub IsTrue : Bool → Type 0
 IsTrue true = Unit {0}
 IsTrue false = ⊥

@@ -27,10 +27,12 @@ use Rattle.rhai_productions.specs.WorkedRows.{IsTrue}
 
 -- ---- statements
 
+-- an expression or assignment begins there
 abbrev pub IsExpression : StatementStart → Type 0
 IsExpression first.Expression = Unit {0}
 IsExpression _ = ⊥
 
+-- where one begins
 abbrev expression_there : {c : Context} {w : Live} {x : node.Statement × Live} (v : StatementStart) → IsExpression v
     → Filled production (Statement c w) (P.statement_by c w first.Expression) x
     → Filled production (Statement c w) (P.statement_by c w v) x
@@ -77,6 +79,7 @@ abbrev pub bare : {c : Context} {w : Live} {at : Position} {constant exported : 
 bare name column =
     form (part _ (form (if_so (this (Name name) (place 1 column) (must given)))) (part _ (form (if_not given)) given))
 
+-- a definition of a variable, and one of a constant
 abbrev pub lets : {c : Context} {w : Live} {f : node.Statement × Live} (at : ℕ)
     → Form production (goal.Definition (level_up c) w (place 1 at) false false) f
     → Form production (Statement c w) f
@@ -109,10 +112,12 @@ imports at f as_at name column =
 
 -- ---- lists of statements
 
+-- a statement of a list begins there
 abbrev pub IsStatement : StatementRole → Type 0
 IsStatement stands.Statement = Unit {0}
 IsStatement _ = ⊥
 
+-- where one begins
 abbrev statement_there : {closing : Closing} {c : Context} {w : Live} {before : node.Statements}
     {x : node.Statements × Live} (role : StatementRole) → IsStatement role
     → Filled production (Statements closing c w before) (P.statements closing c w before stands.Statement) x
@@ -171,11 +176,13 @@ written_as {x = x} f = (x, f)
 
 -- ---- blocks
 
+-- where a block has statements
 abbrev inside_as : {c : Context} {w : Live} {x : node.Statements} (b : Bool) → IsTrue (not b)
     → Filled production (Inside c w) (P.inside_by c w false) x → Filled production (Inside c w) (P.inside_by c w b) x
 inside_as false so f = f
 inside_as true so f = absurd so
 
+-- where a block is one expression or assignment
 abbrev one_inside : {c : Context} {w : Live} {x : node.Statements} (b : Bool) → IsTrue b
     → Filled production (Inside c w) (P.inside_by c w true) x → Filled production (Inside c w) (P.inside_by c w b) x
 one_inside true so f = f
@@ -221,12 +228,14 @@ with_value f = form (if_so (must (part _ f given)))
 abbrev pub without_value : {c : Context} {w : Live} {at : Position} → Form production (goal.Jump c w at) absent
 without_value = form (if_not (must given))
 
+-- a `return`
 abbrev pub returns : {c : Context} {w : Live} {x : node.Optional} (at : ℕ)
     → Form production (goal.Jump c w (place 1 at)) x
     → Form production (Statement c w) (return_statement x false (place 1 at), w)
 returns at f =
     form (choose (Sign token.Return) (place 1 at) (this (Sign token.Return) (place 1 at) (part _ f given)))
 
+-- where loops are allowed
 abbrev break_there : {c : Context} {w : Live} {x : node.Statement × Live} (b : Bool) → IsTrue b
     → Filled production (Statement c w) (P.statement_by c w first.Break) x
     → Filled production (Statement c w) (P.statement_by c w (if b then first.Break else first.Expression)) x

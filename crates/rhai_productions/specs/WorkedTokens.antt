@@ -67,6 +67,7 @@ coalesce n = record {
 
 -- ---- other tokens
 
+-- the end mark
 abbrev pub end_mark : {filter : ExprFilter} → ℕ → After filter None
 end_mark n = record {
   token = Sign token.EOF;
