@@ -2,7 +2,7 @@
 use Rattle.std.proofs.Common.{refl}
 use Rattle.rhai_grammar.specs.Prelude.{number, one_more}
 use Rattle.rhai_productions.specs.RowsOfChains.{CaptureRow, GroupedRow, JoinedRow, QuestionedRow}
-use Rattle.rhai_productions.proofs.Evaluation.{fits, stops}
+use Rattle.rhai_productions.proofs.Evaluation.{fits, misses}
 
 pub grouped_row : GroupedRow
 unfolding one_more number
@@ -28,4 +28,4 @@ questioned_row = record { tree_is = refl; fits = fits (assumption) refl }
 
 pub capture_row : CaptureRow
 unfolding one_more number
-capture_row = record { missed = stops (assumption) }
+capture_row = record { missed = misses (assumption) }

@@ -1,9 +1,8 @@
 -- The worked rows of closures, by evaluation.
 use Rattle.std.proofs.Common.{refl}
 use Rattle.rhai_grammar.specs.Prelude.{last_hex_digits, names_function, number, one_more}
-use Rattle.rhai_productions.specs.RowsOfClosures.{CaseRow, ClosureSumRow, DotRow, EmptyBodyRow, FunctionNameRow}
-use Rattle.rhai_productions.specs.RowsOfClosures.{MemberRow, NestedRow, SecondFunctionRow, SlotRow}
-use Rattle.rhai_productions.proofs.Evaluation.{fits, stops}
+use Rattle.rhai_productions.specs.RowsOfClosures.{ClosureSumRow, FunctionNameRow, MemberRow, NestedRow, SlotRow}
+use Rattle.rhai_productions.proofs.Evaluation.{fits}
 
 pub member_row : MemberRow
 unfolding one_more number last_hex_digits names_function
@@ -24,24 +23,3 @@ nested_row = record { tree_is = refl; fits = fits (assumption) refl }
 pub function_name_row : FunctionNameRow
 unfolding one_more number last_hex_digits names_function
 function_name_row = record { tree_is = refl; fits = fits (assumption) refl }
-
-pub dot_row : DotRow
-unfolding one_more number last_hex_digits names_function
-dot_row = record { tree_is = refl; fits = fits (assumption) refl }
-
-pub empty_body_row : EmptyBodyRow
-unfolding one_more number last_hex_digits names_function
-empty_body_row = record {
-  tree_is = refl;
-  fits = fits (assumption) refl;
-  many = stops (assumption);
-  unknown = stops (assumption);
-}
-
-pub case_row : CaseRow
-unfolding one_more number last_hex_digits names_function
-case_row = record { tree_is = refl; fits = fits (assumption) refl }
-
-pub second_function_row : SecondFunctionRow
-unfolding one_more number last_hex_digits names_function
-second_function_row = record { many = stops (assumption) }

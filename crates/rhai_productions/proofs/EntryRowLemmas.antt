@@ -3,17 +3,17 @@ use Rattle.std.proofs.Common.{refl}
 use Rattle.rhai_grammar.specs.Prelude.{kept_after, kept_comments, last_hex_digits, module_number, names_function, number, one_more}
 use Rattle.rhai_productions.specs.RowsOfEntries.{ChainsEnter, ClosuresEnter, EqualFunctionsEnter, ImportsEnter}
 use Rattle.rhai_productions.specs.RowsOfEntries.{LoopEnters, RangesEnter, ScopesEnter, StringEnters, SumsEnter}
-use Rattle.rhai_productions.proofs.Evaluation.{fits, stops}
+use Rattle.rhai_productions.proofs.Evaluation.{fits, misses}
 
 pub sums_enter : SumsEnter
 unfolding one_more number names_function kept_after kept_comments module_number last_hex_digits
 sums_enter = record {
   sum = record { tree_is = refl; fits = fits (assumption) refl };
   sum_within = fits (assumption) refl;
-  sum_deep = stops (assumption);
+  sum_deep = misses (assumption);
   pair_within = fits (assumption) refl;
-  pair_deep = stops (assumption);
-  flat_deep = stops (assumption);
+  pair_deep = misses (assumption);
+  flat_deep = misses (assumption);
 }
 
 pub ranges_enter : RangesEnter
@@ -22,7 +22,7 @@ ranges_enter = record {
   omitted = record { tree_is = refl; fits = fits (assumption) refl };
   signed = record { tree_is = refl; fits = fits (assumption) refl };
   item = record { tree_is = refl; fits = fits (assumption) refl };
-  ended = stops (assumption);
+  ended = misses (assumption);
 }
 
 pub chains_enter : ChainsEnter
@@ -41,8 +41,8 @@ unfolding one_more number names_function kept_after kept_comments module_number 
 closures_enter = record {
   member = record { tree_is = refl; fits = fits (assumption) refl };
   sum = record { tree_is = refl; fits = fits (assumption) refl };
-  second = stops (assumption);
-  none = stops (assumption);
+  second = misses (assumption);
+  none = misses (assumption);
 }
 
 pub loop_enters : LoopEnters
@@ -51,7 +51,7 @@ loop_enters = record { enters = record { trees_are = refl; fits = fits (assumpti
 
 pub string_enters : StringEnters
 unfolding one_more number names_function kept_after kept_comments module_number last_hex_digits
-string_enters = record { tree_is = refl; fits = fits (assumption) refl; missed = stops (assumption) }
+string_enters = record { tree_is = refl; fits = fits (assumption) refl; missed = misses (assumption) }
 
 pub imports_enter : ImportsEnter
 unfolding one_more number names_function kept_after kept_comments module_number last_hex_digits
@@ -59,4 +59,4 @@ imports_enter = record { enters = record { trees_are = refl; fits = fits (assump
 
 pub equal_functions_enter : EqualFunctionsEnter
 unfolding one_more number names_function kept_after kept_comments module_number last_hex_digits
-equal_functions_enter = record { missed = stops (assumption) }
+equal_functions_enter = record { missed = misses (assumption) }

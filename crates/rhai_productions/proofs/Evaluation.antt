@@ -1,5 +1,5 @@
 -- Demands that are met or missed by evaluation: what is left to show are equations.
-use Rattle.std.proofs.Common.{◌≡◌, Bool, true, false, List, refl, sym, subst, inl, inr}
+use Rattle.std.proofs.Common.{◌≡◌, true, false, refl, subst, inl, inr}
 use Rattle.rhai_lower.specs.Lexemes.{Lexeme}
 use Rattle.rhai_lower.specs.Positions.{nowhere}
 use Rattle.rhai_lower.specs.declared.position.Position.{Position}
@@ -10,7 +10,7 @@ use Rattle.rhai_grammar.specs.Demands.{Missed, Next, Nothing, Otherwise, Refused
 use Rattle.rhai_grammar.specs.Demands.{Verdict, Wrong, verdict, ◌▸◌}
 use Rattle.rhai_reading.specs.Reading.{Goal}
 use Rattle.rhai_grammar.specs.Promises.{Unwritten, Written, unwritten, written}
-use Rattle.rhai_productions.specs.WorkedForms.{Fits, Misses}
+use Rattle.rhai_productions.specs.WorkedRows.{Fits, Misses}
 
 -- where the stream is after demands that are met
 abbrev pub after : Demands → Point → Point
@@ -48,6 +48,7 @@ Meets (Apart inner number captured ▸ rest) s =
     Meets inner (apart s) × HasCaptured number captured (after inner (apart s))
     × Meets rest (with_captured s.captured (after inner (apart s)))
 
+-- Such demands are met.
 meets : (ds : Demands) (s : Point) → Meets ds s → Met ds s (after ds s)
 meets Nothing s m = refl
 meets (Tok by token others ▸ rest) s m = (m.0, meets rest (past by s) m.1)
@@ -74,6 +75,7 @@ error_of (Blames why) at = why
 error_of Fine at = refusal ExprTooDeep at
 error_of Otherwise at = refusal ExprTooDeep at
 
+-- the same of a token, by a test of it
 abbrev error_at : (Lexeme → Verdict) → Item → Refusal
 error_at test token = error_of (verdict test token.lexeme) token.at
 
@@ -104,40 +106,40 @@ blame (Apart inner number captured ▸ (d ▸ rest)) s =
     blame (d ▸ rest) (with_captured s.captured (after inner (apart s)))
 
 -- what makes the last demand missed, and those before it met
-abbrev pub Stops : Demands → Point → Refusal → Mode → Point → Type 0
-Stops Nothing s e m t = ⊥
-Stops (Tok by token others ▸ Nothing) s e m t = Refused others (next_at by s) e × (m ≡ by) × (t ≡ s)
-Stops (Tok by token others ▸ (d ▸ rest)) s e m t =
-    (next_at by s ≡ token) × Stops (d ▸ rest) (past by s) e m t
-Stops (Ahead token others ▸ Nothing) s e m t = Refused others (next_at code s) e × (m ≡ code) × (t ≡ s)
-Stops (Ahead token others ▸ (d ▸ rest)) s e m t = (next_at code s ≡ token) × Stops (d ▸ rest) s e m t
-Stops (Next test ▸ Nothing) s e m t = Refused test (next_at code s) e × (m ≡ code) × (t ≡ s)
-Stops (Next test ▸ (d ▸ rest)) s e m t =
-    (verdict test (next_at code s).lexeme ≡ Fine) × Stops (d ▸ rest) s e m t
-Stops (Uses test captures u ▸ Nothing) s e m t =
+abbrev pub MissesLast : Demands → Point → Refusal → Mode → Point → Type 0
+MissesLast Nothing s e m t = ⊥
+MissesLast (Tok by token others ▸ Nothing) s e m t = Refused others (next_at by s) e × (m ≡ by) × (t ≡ s)
+MissesLast (Tok by token others ▸ (d ▸ rest)) s e m t =
+    (next_at by s ≡ token) × MissesLast (d ▸ rest) (past by s) e m t
+MissesLast (Ahead token others ▸ Nothing) s e m t = Refused others (next_at code s) e × (m ≡ code) × (t ≡ s)
+MissesLast (Ahead token others ▸ (d ▸ rest)) s e m t = (next_at code s ≡ token) × MissesLast (d ▸ rest) s e m t
+MissesLast (Next test ▸ Nothing) s e m t = Refused test (next_at code s) e × (m ≡ code) × (t ≡ s)
+MissesLast (Next test ▸ (d ▸ rest)) s e m t =
+    (verdict test (next_at code s).lexeme ≡ Fine) × MissesLast (d ▸ rest) s e m t
+MissesLast (Uses test captures u ▸ Nothing) s e m t =
     Refused (test s.library) (next_at code s) e × (m ≡ code) × (t ≡ s)
-Stops (Uses test captures u ▸ (d ▸ rest)) s e m t =
+MissesLast (Uses test captures u ▸ (d ▸ rest)) s e m t =
     (verdict (test s.library) (next_at code s).lexeme ≡ Fine)
-    × Stops (d ▸ rest) (capturing (captures s.library (next_at code s).lexeme) u s) e m t
-Stops (Test holds why ▸ Nothing) s e m t = (holds ≡ false) × (e ≡ why) × (m ≡ code) × (t ≡ s)
-Stops (Test holds why ▸ (d ▸ rest)) s e m t = (holds ≡ true) × Stops (d ▸ rest) s e m t
-Stops (TestIn holds why ▸ Nothing) s e m t = (holds s.library ≡ false) × (e ≡ why) × (m ≡ code) × (t ≡ s)
-Stops (TestIn holds why ▸ (d ▸ rest)) s e m t = (holds s.library ≡ true) × Stops (d ▸ rest) s e m t
-Stops (Adds ended ▸ rest) s e m t = Stops rest (adding ended s) e m t
-Stops (Captures holds why captures u ▸ Nothing) s e m t =
+    × MissesLast (d ▸ rest) (capturing (captures s.library (next_at code s).lexeme) u s) e m t
+MissesLast (Test holds why ▸ Nothing) s e m t = (holds ≡ false) × (e ≡ why) × (m ≡ code) × (t ≡ s)
+MissesLast (Test holds why ▸ (d ▸ rest)) s e m t = (holds ≡ true) × MissesLast (d ▸ rest) s e m t
+MissesLast (TestIn holds why ▸ Nothing) s e m t = (holds s.library ≡ false) × (e ≡ why) × (m ≡ code) × (t ≡ s)
+MissesLast (TestIn holds why ▸ (d ▸ rest)) s e m t = (holds s.library ≡ true) × MissesLast (d ▸ rest) s e m t
+MissesLast (Adds ended ▸ rest) s e m t = MissesLast rest (adding ended s) e m t
+MissesLast (Captures holds why captures u ▸ Nothing) s e m t =
     (holds s.library ≡ false) × (e ≡ why) × (m ≡ code) × (t ≡ s)
-Stops (Captures holds why captures u ▸ (d ▸ rest)) s e m t =
-    (holds s.library ≡ true) × Stops (d ▸ rest) (capturing (captures s.library) u s) e m t
-Stops (Shape holds ▸ rest) s e m t = (holds ≡ true) × Stops rest s e m t
-Stops (Literally inner ▸ Nothing) s e m t = Stops inner s (blame inner s) m t × (e ≡ as_literal (blame inner s))
-Stops (Literally inner ▸ (d ▸ rest)) s e m t = Meets inner s × Stops (d ▸ rest) (after inner s) e m t
-Stops (Apart inner number captured ▸ Nothing) s e m t = Stops inner (apart s) e m t
-Stops (Apart inner number captured ▸ (d ▸ rest)) s e m t =
+MissesLast (Captures holds why captures u ▸ (d ▸ rest)) s e m t =
+    (holds s.library ≡ true) × MissesLast (d ▸ rest) (capturing (captures s.library) u s) e m t
+MissesLast (Shape holds ▸ rest) s e m t = (holds ≡ true) × MissesLast rest s e m t
+MissesLast (Literally inner ▸ Nothing) s e m t = MissesLast inner s (blame inner s) m t × (e ≡ as_literal (blame inner s))
+MissesLast (Literally inner ▸ (d ▸ rest)) s e m t = Meets inner s × MissesLast (d ▸ rest) (after inner s) e m t
+MissesLast (Apart inner number captured ▸ Nothing) s e m t = MissesLast inner (apart s) e m t
+MissesLast (Apart inner number captured ▸ (d ▸ rest)) s e m t =
     Meets inner (apart s) × HasCaptured number captured (after inner (apart s))
-    × Stops (d ▸ rest) (with_captured s.captured (after inner (apart s))) e m t
+    × MissesLast (d ▸ rest) (with_captured s.captured (after inner (apart s))) e m t
 
 -- The last demand is missed.
-missed_by : (ds : Demands) (s : Point) (e : Refusal) (m : Mode) (t : Point) → Stops ds s e m t → Missed ds s e m t
+missed_by : (ds : Demands) (s : Point) (e : Refusal) (m : Mode) (t : Point) → MissesLast ds s e m t → Missed ds s e m t
 missed_by Nothing s e m t k = k
 missed_by (Tok by token others ▸ Nothing) s e m t k = inl k
 missed_by (Tok by token others ▸ (d ▸ rest)) s e m t k = inr (k.0, missed_by (d ▸ rest) (past by s) e m t k.1)
@@ -163,6 +165,6 @@ missed_by (Apart inner number captured ▸ (d ▸ rest)) s e m t k =
     inr (after inner (apart s), meets inner (apart s) k.0, k.1, missed_by (d ▸ rest) _ e m t k.2)
 
 -- An open form of which the last demand is missed, misses it.
-pub stops : {g : Goal} {f : Unwritten g} {s t : Point} {e : Refusal} {m : Mode} → Stops (unwritten g f) s e m t
+pub misses : {g : Goal} {f : Unwritten g} {s t : Point} {e : Refusal} {m : Mode} → MissesLast (unwritten g f) s e m t
     → Misses g f s e m t
-stops {g} {f} {s} {t} {e} {m} k = record { missed = missed_by (unwritten g f) s e m t k }
+misses {g} {f} {s} {t} {e} {m} k = record { missed = missed_by (unwritten g f) s e m t k }

@@ -2,15 +2,15 @@
 use Rattle.std.proofs.Common.{refl}
 use Rattle.rhai_grammar.specs.Prelude.{kept_after, kept_comments, names_function, number, one_more}
 use Rattle.rhai_productions.specs.RowsOfFunctions.{CommentRow, FunctionRow}
-use Rattle.rhai_productions.proofs.Evaluation.{fits, stops}
+use Rattle.rhai_productions.proofs.Evaluation.{fits, misses}
 
 pub function_row : FunctionRow
 unfolding one_more number names_function kept_after kept_comments
 function_row = record {
   tree_is = refl;
   fits = fits (assumption) refl;
-  again = stops (assumption);
-  deep = stops (assumption);
+  again = misses (assumption);
+  deep = misses (assumption);
 }
 
 pub comment_row : CommentRow
@@ -18,7 +18,7 @@ unfolding one_more number names_function kept_after kept_comments
 comment_row = record {
   tree_is = refl;
   fits = fits (assumption) refl;
-  before_other = stops (assumption);
-  before_end = stops (assumption);
-  below = stops (assumption);
+  before_other = misses (assumption);
+  before_end = misses (assumption);
+  below = misses (assumption);
 }

@@ -76,6 +76,8 @@ pub mod LinesOfFunctions
 pub mod LinesOfClosures
 pub mod Evaluation
 pub mod SumRowLemmas
+pub mod RangeRowLemmas
+pub mod ListRowLemmas
 pub mod ChainRowLemmas
 pub mod StatementRowLemmas
 pub mod StringRowLemmas
@@ -83,4 +85,5 @@ pub mod ConstructRowLemmas
 pub mod ModuleRowLemmas
 pub mod FunctionRowLemmas
 pub mod ClosureRowLemmas
+pub mod ClosureBodyRowLemmas
 pub mod EntryRowLemmas

@@ -2,7 +2,7 @@
 use Rattle.std.proofs.Common.{refl}
 use Rattle.rhai_grammar.specs.Prelude.{number, one_more}
 use Rattle.rhai_productions.specs.RowsOfStatements.{AgainRow, ConstantRow, LetRow, OpenBlockRow, ScopesRow, SingleRow}
-use Rattle.rhai_productions.proofs.Evaluation.{fits, stops}
+use Rattle.rhai_productions.proofs.Evaluation.{fits, misses}
 
 pub scopes_row : ScopesRow
 unfolding one_more number
@@ -14,16 +14,16 @@ again_row = record { tree_is = refl; fits = fits (assumption) refl; live_is = re
 
 pub constant_row : ConstantRow
 unfolding one_more number
-constant_row = record { missed = stops (assumption) }
+constant_row = record { missed = misses (assumption) }
 
 pub open_block_row : OpenBlockRow
 unfolding one_more number
-open_block_row = record { missed = stops (assumption); ended_missed = stops (assumption) }
+open_block_row = record { missed = misses (assumption); ended_missed = misses (assumption) }
 
 pub single_row : SingleRow
 unfolding one_more number
-single_row = record { missed = stops (assumption); fits = fits (assumption) refl; tree_is = refl }
+single_row = record { missed = misses (assumption); fits = fits (assumption) refl; tree_is = refl }
 
 pub let_row : LetRow
 unfolding one_more number
-let_row = record { fits = fits (assumption) refl; value_deep = stops (assumption); deep = stops (assumption) }
+let_row = record { fits = fits (assumption) refl; value_deep = misses (assumption); deep = misses (assumption) }

@@ -2,21 +2,21 @@
 use Rattle.std.proofs.Common.{refl}
 use Rattle.rhai_grammar.specs.Prelude.{number, one_more}
 use Rattle.rhai_productions.specs.RowsOfStrings.{JumpRow, ReturnRow, StringRow}
-use Rattle.rhai_productions.proofs.Evaluation.{fits, stops}
+use Rattle.rhai_productions.proofs.Evaluation.{fits, misses}
 
 pub string_row : StringRow
 unfolding one_more number
-string_row = record { tree_is = refl; fits = fits (assumption) refl; missed = stops (assumption) }
+string_row = record { tree_is = refl; fits = fits (assumption) refl; missed = misses (assumption) }
 
 pub jump_row : JumpRow
 unfolding one_more number
 jump_row = record {
   tree_is = refl;
   fits = fits (assumption) refl;
-  value_deep = stops (assumption);
-  deep = stops (assumption);
+  value_deep = misses (assumption);
+  deep = misses (assumption);
 }
 
 pub return_row : ReturnRow
 unfolding one_more number
-return_row = record { missed = stops (assumption) }
+return_row = record { missed = misses (assumption) }

@@ -33,13 +33,17 @@ pub mod LinesOfSwitches
 pub mod LinesOfModules
 pub mod LinesOfFunctions
 pub mod LinesOfClosures
+pub mod WorkedRows
 pub mod WorkedTokens
 pub mod WorkedForms
+pub mod WorkedLists
 pub mod WorkedOpenForms
 pub mod WorkedStatements
 pub mod WorkedFunctions
 pub mod WorkedOpenStatements
 pub mod RowsOfSums
+pub mod RowsOfRanges
+pub mod RowsOfLists
 pub mod RowsOfChains
 pub mod RowsOfStatements
 pub mod RowsOfStrings
@@ -47,4 +51,5 @@ pub mod RowsOfConstructs
 pub mod RowsOfModules
 pub mod RowsOfFunctions
 pub mod RowsOfClosures
+pub mod RowsOfClosureBodies
 pub mod RowsOfEntries

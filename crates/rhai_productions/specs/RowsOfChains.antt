@@ -1,10 +1,5 @@
 -- Worked rows of chains: lines, their written forms and trees, and what is refused.
-use Rattle.rhai_grammar.specs.Causes.{Refusal, refusal}
-use Rattle.rhai_grammar.specs.Causes as cause
-use Rattle.rhai_grammar.specs.Contexts.{Context}
-use Rattle.rhai_grammar.specs.Delivered.{code}
-use Rattle.rhai_grammar.specs.RowStreams.{between, depth, unread}
-use Rattle.rhai_grammar.specs.Trees.{variable_of}
+use Rattle.std.specs.Prelude.{List, None, ℕ, [], codes, false, true, ◌∷◌, ◌≡◌}
 use Rattle.rhai_lower.specs.Lexemes.{Lexeme, Name, Sign}
 use Rattle.rhai_lower.specs.Nodes.{Node}
 use Rattle.rhai_lower.specs.Nodes as node
@@ -12,13 +7,19 @@ use Rattle.rhai_lower.specs.Positions.{place}
 use Rattle.rhai_lower.specs.Texts.{Text}
 use Rattle.rhai_lower.specs.declared.node.LinkFlags.{LinkFlags}
 use Rattle.rhai_lower.specs.declared.token.Token.TheVariants as token
+use Rattle.rhai_grammar.specs.Causes.{Refusal, refusal}
+use Rattle.rhai_grammar.specs.Causes as cause
+use Rattle.rhai_grammar.specs.Contexts.{Context}
+use Rattle.rhai_grammar.specs.Delivered.{code}
+use Rattle.rhai_grammar.specs.RowStreams.{between, depth, unread}
+use Rattle.rhai_grammar.specs.Trees.{variable_of}
 use Rattle.rhai_grammar.specs.Forms.{choose, form, given, if_not, if_so, must, must_here, part, this, uses}
 use Rattle.rhai_grammar.specs.Promises.{Unwritten, Written, tree_of}
-use Rattle.rhai_productions.specs.WorkedForms.{Fits, Misses, bracket, dotted, ends, formula, group, name_alone}
-use Rattle.rhai_productions.specs.WorkedForms.{name_linked, question_bracket, run, unlinked, whole}
+use Rattle.rhai_productions.specs.WorkedForms.{ends, group, name_alone, name_linked, run, unlinked, whole}
+use Rattle.rhai_productions.specs.WorkedLists.{bracket, dotted, question_bracket}
 use Rattle.rhai_productions.specs.WorkedOpenForms.{open_operand, open_part, open_whole}
+use Rattle.rhai_productions.specs.WorkedRows.{Fits, Misses, formula}
 use Rattle.rhai_productions.specs.WorkedTokens.{closing_bracket, closing_paren, end_mark}
-use Rattle.std.specs.Prelude.{List, None, ℕ, [], codes, false, true, ◌∷◌, ◌≡◌}
 
 -- ---- nodes on the first line, each token at its column
 
@@ -152,6 +153,7 @@ capture_tokens =
     (Name (codes "a"), 1) ∷ (Sign token.Period, 2) ∷ (Name (codes "f"), 3) ∷ (Sign token.Bang, 4)
     ∷ (Sign token.Unit, 5) ∷ (Sign token.Period, 7) ∷ (Name (codes "b"), 8) ∷ []
 
+-- up to the end of the chain, where the `!` is refused
 abbrev pub capture_form : (c : Context) → Unwritten (formula c)
 capture_form c =
     open_whole (open_operand (Name (codes "a")) 1 (choose (Name (codes "a")) (place 1 1) (part _ (form (choose

@@ -1,32 +1,33 @@
 -- Worked rows of loops and `switch`: lines, their written forms and trees, and what is refused.
-use Rattle.rhai_grammar.specs.Causes.{refusal}
-use Rattle.rhai_grammar.specs.Causes as cause
-use Rattle.rhai_grammar.specs.Contexts.{Context, allows_looping, has_single_blocks, loop_body, nothing_live}
-use Rattle.rhai_grammar.specs.Delivered.{code}
-use Rattle.rhai_grammar.specs.Operators.{operator_call}
-use Rattle.rhai_grammar.specs.RowStreams.{between, depth, unread}
+use Rattle.std.specs.Prelude.{List, None, Some, ℕ, [], codes, false, not, pos, true, ◌++◌, ◌∷◌, ◌≡◌}
 use Rattle.rhai_lower.specs.Lexemes.{Integer, Lexeme, Name, Sign}
 use Rattle.rhai_lower.specs.Nodes.{Node}
 use Rattle.rhai_lower.specs.Nodes as node
 use Rattle.rhai_lower.specs.Positions.{nowhere, place}
 use Rattle.rhai_lower.specs.Slots.{fresh_slot}
 use Rattle.rhai_lower.specs.declared.token.Token.TheVariants as token
-use Rattle.rhai_grammar.specs.Forms.{choose, form, given, if_not, literal, literal_here, must, must_here}
+use Rattle.rhai_grammar.specs.Causes.{refusal}
+use Rattle.rhai_grammar.specs.Causes as cause
+use Rattle.rhai_grammar.specs.Contexts.{Context, allows_looping, has_single_blocks, loop_body, nothing_live}
+use Rattle.rhai_grammar.specs.Delivered.{code}
+use Rattle.rhai_grammar.specs.Operators.{operator_call}
+use Rattle.rhai_grammar.specs.RowStreams.{between, depth, unread}
+use Rattle.rhai_grammar.specs.Forms.{choose, form, given, if_not, literal_here, must, must_here}
 use Rattle.rhai_grammar.specs.Forms.{open_form, part, take, take_here, this}
 use Rattle.rhai_grammar.specs.Promises.{Unwritten, Written, tree_of}
 use Rattle.rhai_productions.specs.RowsOfStatements.{begins, definition, integer, let_tokens, variable}
-use Rattle.rhai_productions.specs.WorkedForms.{Fits, IsTrue, Misses, alone, ends, joins, name_alone, named, number}
-use Rattle.rhai_productions.specs.WorkedForms.{right, right_of_range, run, script}
+use Rattle.rhai_productions.specs.WorkedForms.{alone, joins_last, name_alone, named, number, right, right_of_range}
+use Rattle.rhai_productions.specs.WorkedForms.{run}
 use Rattle.rhai_productions.specs.WorkedFunctions.{arm_then, brace_after, cased, comma_after, does, for_each, no_arm}
 use Rattle.rhai_productions.specs.WorkedFunctions.{switch, two_names}
 use Rattle.rhai_productions.specs.WorkedOpenForms.{open_operand, open_part}
 use Rattle.rhai_productions.specs.WorkedOpenStatements.{open_first, open_switch}
+use Rattle.rhai_productions.specs.WorkedRows.{Fits, IsTrue, Misses, script}
 use Rattle.rhai_productions.specs.WorkedStatements.{braced, breaks, closed, evaluates, first_of, followed_by}
-use Rattle.rhai_productions.specs.WorkedStatements.{giving_nothing, last_before, last_inside, lets, many, no_more}
-use Rattle.rhai_productions.specs.WorkedStatements.{semicolon_then, valued, written_as}
+use Rattle.rhai_productions.specs.WorkedStatements.{last_before, last_inside, lets, many, no_more, semicolon_then}
+use Rattle.rhai_productions.specs.WorkedStatements.{valued, without_value, written_as}
 use Rattle.rhai_productions.specs.WorkedTokens.{arrow, case_bar, closing_brace, comma, end_mark, opening_brace, plus}
-use Rattle.rhai_productions.specs.WorkedTokens.{semicolon, to}
-use Rattle.std.specs.Prelude.{List, None, Some, ℕ, [], codes, false, not, pos, true, ◌++◌, ◌+◌, ◌∷◌, ◌≡◌}
+use Rattle.rhai_productions.specs.WorkedTokens.{range, semicolon}
 
 -- ---- loops
 
@@ -39,14 +40,16 @@ loop_tokens =
     ∷ (Sign token.Plus, 24) ∷ (Name (codes "i"), 26) ∷ (Sign token.RightBrace, 28) ∷ []
 
 -- under a context in which loops are allowed, and a block has statements
-abbrev pub loop_form : (c : Context) → IsTrue (allows_looping c) → IsTrue (not (has_single_blocks (loop_body c))) →
-    Written (script c)
+abbrev pub loop_form : (c : Context) → IsTrue (allows_looping c) → IsTrue (not (has_single_blocks (loop_body c)))
+    → Written (script c)
 loop_form c loops so =
-    written_as (first_of (for_each 1 loops (two_names 5 (codes "a") 6 7 (codes "i") 9 10 12) (run (number 0 15 (to 16))
-    (joins (to 16) tt (right_of_range (number 3 18 (opening_brace 20)) tt) (ends (opening_brace 20))
-    (ends (opening_brace 20)))) (braced 20 (closed (many so (first_of (evaluates (run (named (codes "a") 22 (plus 24))
-    (joins (plus 24) tt (right (named (codes "i") 26 (closing_brace 28))) (ends (closing_brace 28))
-    (ends (closing_brace 28)))) tt) tt (last_inside 28))) 28))) tt (followed_by (no_more 29)))
+    written_as (
+    first_of (for_each 1 loops (two_names 5 (codes "a") 6 7 (codes "i") 9 10 12) (run (number 0 15 (range 16)) (
+    joins_last (range 16) tt (right_of_range (number 3 18 (opening_brace 20)) tt) (opening_brace 20))) (braced 20
+    (closed (many so (
+    first_of (evaluates (run (named (codes "a") 22 (plus 24)) (
+    joins_last (plus 24) tt (right (named (codes "i") 26 (closing_brace 28))) (closing_brace 28))) tt) tt
+    (last_inside 28))) 28))) tt (followed_by (no_more 29)))
 
 abbrev pub looped_block : node.Block
 looped_block =
@@ -78,6 +81,7 @@ break_rest = (Sign token.SemiColon, 6) ∷ []
 abbrev pub break_tokens : List (Lexeme × ℕ)
 break_tokens = break_begun ++ break_rest
 
+-- up to the `break`, outside of a loop
 abbrev pub break_refused : Unwritten (script (depth 64))
 break_refused =
     open_first (open_form (choose (Sign token.Break) (place 1 1) (this (Sign token.Break) (place 1 1) must_here))) tt
@@ -87,12 +91,11 @@ abbrev pub in_loop : Context
 in_loop = record (depth 64) { settings = record { flags = 8; options = 0; level = 0; limit = 64 } }
 
 abbrev pub break_form : Written (script in_loop)
-break_form = written_as (first_of (breaks 1 tt giving_nothing) tt (semicolon_then 6 (no_more 7)))
+break_form = written_as (first_of (breaks 1 tt without_value) tt (semicolon_then 6 (no_more 7)))
 
 pub record BreakRow : Type 0 where
   pub missed : Misses (script (depth 64)) break_refused (unread break_tokens 7) (refusal cause.LoopBreak (place 1 1))
-      code
-      (between break_begun break_rest 7)
+      code (between break_begun break_rest 7)
   pub fits : Fits (script in_loop) break_form (unread break_tokens 7) (between break_tokens [] 7)
 
 -- ---- `switch`
@@ -113,11 +116,12 @@ arm_tokens = arm_begun ++ arm_rest
 
 abbrev pub arm_form : Written (script (depth 64))
 arm_form =
-    written_as (first_of (lets 1 (valued (codes "x") 5 7 (alone (number 1 9) (semicolon 10)))) tt (semicolon_then 10
-    (first_of (switch 12 (alone (number 1 19) (opening_brace 21)) 21 (arm_then (alone (number 1 23) (arrow 25)) tt 25
-    (does tt (lets 28 (valued (codes "y") 32 34 (alone (number 2 36) (closing_brace 38))))) (brace_after 38)
-    (no_arm 38))) tt (followed_by (first_of (evaluates (name_alone (codes "x") 40 (end_mark 41)) tt) tt
-    (last_before 41))))))
+    written_as (
+    first_of (lets 1 (valued (codes "x") 5 7 (alone (number 1 9) (semicolon 10)))) tt (semicolon_then 10 (
+    first_of (switch 12 (alone (number 1 19) (opening_brace 21)) 21 (
+    arm_then (alone (number 1 23) (arrow 25)) tt 25 (does tt (lets 28 (valued (codes "y") 32 34
+    (alone (number 2 36) (closing_brace 38))))) (brace_after 38) (no_arm 38))) tt (followed_by (
+    first_of (evaluates (name_alone (codes "x") 40 (end_mark 41)) tt) tt (last_before 41))))))
 
 abbrev pub arm_action : Node
 arm_action = node.block_value (node.block_of_one (definition false 28 (codes "y") (integer 2 36) None))
@@ -149,6 +153,7 @@ abbrev pub default_rest : List (Lexeme × ℕ)
 default_rest =
     (Integer (pos 3), 20) ∷ (Sign token.DoubleArrow, 22) ∷ (Integer (pos 4), 25) ∷ (Sign token.RightBrace, 27) ∷ []
 
+-- up to the arm after the default arm
 abbrev pub default_form : Unwritten (script (depth 64))
 default_form =
     open_first (open_switch 1 (alone (number 1 8) (opening_brace 10)) 10 (open_form (choose (Sign token.Underscore)
@@ -179,12 +184,13 @@ integer_rest = (Sign token.RightBrace, 30) ∷ []
 abbrev pub integer_begun : List (Lexeme × ℕ)
 integer_begun = range_case ++ range_action ++ integer_action
 
+-- up to the action of the second arm, after which its case is refused
 abbrev pub integer_form : Unwritten (script (depth 64))
 integer_form =
     open_first (open_switch 1 (name_alone (codes "x") 8 (opening_brace 10)) 10 (open_form (choose (Integer (pos 0))
-    (place 1 12) (part _ (form (part _ (cased (run (number 0 12 (to 13)) (joins (to 13) tt (right_of_range
-    (number 5 15 (arrow 17)) tt) (ends (arrow 17)) (ends (arrow 17))))) (part _ (form (if_not given)) (take
-    (Sign token.DoubleArrow) (place 1 17) (part _ (does tt (evaluates (alone (number 1 20) (comma 21)) tt)) (must
+    (place 1 12) (part _ (form (part _ (cased (run (number 0 12 (range 13)) (
+    joins_last (range 13) tt (right_of_range (number 5 15 (arrow 17)) tt) (arrow 17)))) (part _ (form (if_not given))
+    (take (Sign token.DoubleArrow) (place 1 17) (part _ (does tt (evaluates (alone (number 1 20) (comma 21)) tt)) (must
     (part _ (comma_after 21) given))))))) (open_part (choose (Integer (pos 3)) (place 1 23) (open_part (part _ (cased
     (alone (number 3 23) (arrow 25))) (part _ (form (if_not given)) (take (Sign token.DoubleArrow) (place 1 25) (part _
     (does tt (evaluates (alone (number 2 28) (closing_brace 30)) tt)) must_here))))))))))) tt
@@ -205,6 +211,7 @@ pipe_rest =
     (Sign token.Pipe, 15) ∷ (Integer (pos 2), 17) ∷ (Sign token.RightParen, 18) ∷ (Sign token.DoubleArrow, 20)
     ∷ (Integer (pos 3), 23) ∷ (Sign token.RightBrace, 25) ∷ []
 
+-- up to the `)` that is missing
 abbrev pub pipe_form : Unwritten (script (depth 64))
 pipe_form =
     open_first (open_switch 1 (alone (number 1 8) (opening_brace 10)) 10 (open_form (choose (Sign token.LeftParen)

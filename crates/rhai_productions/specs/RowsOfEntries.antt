@@ -1,37 +1,39 @@
 -- Worked rows under a new engine's settings, which are what it hands over at its two entries.
-use Rattle.rhai_grammar.specs.Causes.{Refusal, refusal}
-use Rattle.rhai_grammar.specs.Causes as cause
-use Rattle.rhai_grammar.specs.Contexts.{Context, has_single_blocks, nothing_live}
-use Rattle.rhai_grammar.specs.Delivered.{code, item, past, text}
-use Rattle.rhai_grammar.specs.EntryContexts.{at_entry, entry_expression, entry_script}
-use Rattle.rhai_grammar.specs.Libraries.{Ended, Library}
-use Rattle.rhai_grammar.specs.RowStreams.{between, holding, unread}
+use Rattle.std.specs.Prelude.{List, None, ℕ, [], codes, false, ◌++◌, ◌∷◌, ◌≡◌}
 use Rattle.rhai_lower.specs.Lexemes.{Interpolated, Lexeme, Name, Sign, String}
 use Rattle.rhai_lower.specs.Nodes.{Node}
 use Rattle.rhai_lower.specs.Nodes as node
 use Rattle.rhai_lower.specs.Positions.{place}
 use Rattle.rhai_lower.specs.Slots.{fresh_slot}
 use Rattle.rhai_lower.specs.declared.token.Token.TheVariants as token
+use Rattle.rhai_grammar.specs.Causes.{Refusal, refusal}
+use Rattle.rhai_grammar.specs.Causes as cause
+use Rattle.rhai_grammar.specs.Contexts.{Context, has_single_blocks, nothing_live}
+use Rattle.rhai_grammar.specs.Delivered.{code, past, text}
+use Rattle.rhai_grammar.specs.EntryContexts.{at_entry, entry_expression, entry_script}
+use Rattle.rhai_grammar.specs.Libraries.{Ended, Library}
+use Rattle.rhai_grammar.specs.RowStreams.{between, holding, unread}
 use Rattle.rhai_grammar.specs.Forms.{apart_here, choose, form, given, if_not, knows, must, open_form, part}
 use Rattle.rhai_grammar.specs.Forms.{part_here, take, text_here, this}
 use Rattle.rhai_grammar.specs.Promises.{Unwritten, Written, tree_of}
 use Rattle.rhai_productions.specs.RowsOfChains as chain
-use Rattle.rhai_productions.specs.RowsOfClosures as closed
+use Rattle.rhai_productions.specs.RowsOfClosures as closure
 use Rattle.rhai_productions.specs.RowsOfConstructs as construct
 use Rattle.rhai_productions.specs.RowsOfModules as twice
+use Rattle.rhai_productions.specs.RowsOfRanges as range
 use Rattle.rhai_productions.specs.RowsOfStatements as statement
 use Rattle.rhai_productions.specs.RowsOfStrings as string
 use Rattle.rhai_productions.specs.RowsOfSums as sums
-use Rattle.rhai_productions.specs.WorkedForms.{Fits, IsTrue, Misses, alone, formula, name_alone, script, whole}
+use Rattle.rhai_productions.specs.WorkedForms.{alone, name_alone, whole}
 use Rattle.rhai_productions.specs.WorkedFunctions.{declares, function, headed, interpolated, last_segment}
 use Rattle.rhai_productions.specs.WorkedFunctions.{no_parameters}
 use Rattle.rhai_productions.specs.WorkedOpenForms.{open_operand, open_part, open_whole}
 use Rattle.rhai_productions.specs.WorkedOpenStatements.{no_room, open_declares, open_evaluates, open_first}
 use Rattle.rhai_productions.specs.WorkedOpenStatements.{open_followed, open_jump, open_next, open_return, open_single}
 use Rattle.rhai_productions.specs.WorkedOpenStatements.{refused_function}
+use Rattle.rhai_productions.specs.WorkedRows.{Fits, IsTrue, Misses, formula, script}
 use Rattle.rhai_productions.specs.WorkedStatements.{closed, many, no_more_inside, one, single}
 use Rattle.rhai_productions.specs.WorkedTokens.{closing_brace, end_mark}
-use Rattle.std.specs.Prelude.{List, None, ℕ, [], codes, false, ◌++◌, ◌+◌, ◌∷◌, ◌≡◌}
 
 -- An expression has this tree, fits at its entry, and spells these tokens; these functions end in it.
 pub record EntersExpression (f : Written (formula (entry_expression 64))) (tokens : List (Lexeme × ℕ)) (end : ℕ)
@@ -71,12 +73,14 @@ pub record SumsEnter : Type 0 where
 -- ---- `..5`, `-..5` and `[5..]`, and `5..`, which is refused at the end mark
 
 pub record RangesEnter : Type 0 where
-  pub omitted : EntersExpression (sums.open_range (entry_expression 64)) sums.open_tokens 4 (sums.range_tree 1 1 3) []
-  pub signed : EntersExpression (sums.minus_form (entry_expression 64)) sums.minus_tokens 5 (sums.range_tree 1 2 4) []
-  pub item : EntersExpression (sums.ranged_form (entry_expression 64) tt) sums.ranged_tokens 6
-      (node.array (node.one_node sums.ranged_tree node.no_nodes) (place 1 1)) []
-  pub ended : Misses (formula (entry_expression 64)) (sums.ended_range (entry_expression 64))
-      (unread sums.ended_tokens 4) (refusal cause.UnexpectedEOF (place 1 4)) code (between sums.ended_tokens [] 4)
+  pub omitted : EntersExpression (range.open_range (entry_expression 64)) range.open_tokens 4 (range.range_tree 1 1 3)
+      []
+  pub signed : EntersExpression (range.minus_form (entry_expression 64)) range.minus_tokens 5 (range.range_tree 1 2 4)
+      []
+  pub item : EntersExpression (range.ranged_form (entry_expression 64) tt) range.ranged_tokens 6
+      (node.array (node.one_node range.ranged_tree node.no_nodes) (place 1 1)) []
+  pub ended : Misses (formula (entry_expression 64)) (range.ended_range (entry_expression 64))
+      (unread range.ended_tokens 4) (refusal cause.UnexpectedEOF (place 1 4)) code (between range.ended_tokens [] 4)
 
 -- ---- `( x[y].prop_a )[z].prop_b`, and the same without parentheses
 
@@ -96,7 +100,7 @@ pub record ScopesEnter : Type 0 where
 -- ---- `|| x in y` and `|x| x + y`; and closures that are one function too many
 
 abbrev pub member_function : Ended
-member_function = closed.giving 0 (codes "x" ∷ codes "y" ∷ []) closed.member_value
+member_function = closure.giving 0 (codes "x" ∷ codes "y" ∷ []) closure.member_value
 
 abbrev pub bar_tokens : (at : ℕ) → (name : List ℕ) → (name_at closing : ℕ) → List (Lexeme × ℕ)
 bar_tokens at name name_at closing = (Sign token.Pipe, at) ∷ (Name name, name_at) ∷ (Sign token.Pipe, closing) ∷ []
@@ -108,6 +112,7 @@ inner_begun = bar_tokens 1 (codes "x") 2 3 ++ ((Sign token.Pipe, 5) ∷ [])
 abbrev pub inner_rest : List (Lexeme × ℕ)
 inner_rest = (Name (codes "y"), 6) ∷ (Sign token.Pipe, 7) ∷ (Name (codes "y"), 9) ∷ []
 
+-- up to the inner closure, for which there is no room
 abbrev pub inner_form : Unwritten (formula (at_entry 17 179 64 1))
 inner_form =
     open_whole (open_operand (Sign token.Pipe) 1 (choose (Sign token.Pipe) (place 1 1) (open_part (choose
@@ -125,16 +130,17 @@ returned_begun = (Sign token.Return, 1) ∷ (Sign token.Pipe, 8) ∷ []
 abbrev pub returned_rest : List (Lexeme × ℕ)
 returned_rest = (Name (codes "x"), 9) ∷ (Sign token.Pipe, 10) ∷ (Name (codes "x"), 12) ∷ []
 
+-- up to the closure for which there is no room
 abbrev pub returned_form : Unwritten (script (at_entry 1 191 64 0))
 returned_form =
     open_first (open_return 1 (open_jump (open_operand (Sign token.Pipe) 8 (choose (Sign token.Pipe) (place 1 8)
     (open_part (choose (Sign token.Pipe) (place 1 8) (this (Sign token.Pipe) (place 1 8) (part_here no_room)))))))) tt
 
 pub record ClosuresEnter : Type 0 where
-  pub member : EntersExpression (closed.member_form (entry_expression 64) tt) closed.member_tokens 10
-      closed.member_tree (member_function ∷ [])
-  pub sum : EntersExpression (closed.sum_form (entry_expression 64) tt) closed.sum_tokens 10 closed.sum_value
-      (closed.sum_function ∷ [])
+  pub member : EntersExpression (closure.member_form (entry_expression 64) tt) closure.member_tokens 10
+      closure.member_tree (member_function ∷ [])
+  pub sum : EntersExpression (closure.sum_form (entry_expression 64) tt) closure.sum_tokens 10 closure.sum_value
+      (closure.sum_function ∷ [])
   pub second : Misses (formula (at_entry 17 179 64 1)) inner_form (unread (inner_begun ++ inner_rest) 10)
       (refusal cause.TooManyFunctions (place 1 5)) code (between inner_begun inner_rest 10)
   pub none : Misses (script (at_entry 1 191 64 0)) returned_form (unread (returned_begun ++ returned_rest) 13)
@@ -199,11 +205,13 @@ first_function = record {
 abbrev pub equal_tokens : List (Lexeme × ℕ)
 equal_tokens = empty_tokens 1 4 5 8 9 ++ empty_tokens 11 14 15 18 19
 
+-- up to the end of the second function
 abbrev pub equal_form : Unwritten (script entry_script)
 equal_form =
     open_next (declares 1 (function (headed (codes "f") 4 (no_parameters 5) 8 (closed (many tt (no_more_inside 9))
-    9)))) tt (open_followed (open_first (open_declares 11 (refused_function (headed (codes "f") 14 (no_parameters 15)
-    18 (closed (many tt (no_more_inside 19)) 19)))) tt))
+    9)))) tt (open_followed (
+    open_first (open_declares 11 (refused_function (headed (codes "f") 14 (no_parameters 15) 18 (closed
+    (many tt (no_more_inside 19)) 19)))) tt))
 
 abbrev pub equal_refused : Refusal
 equal_refused = refusal (cause.FnDuplicatedDefinition (codes "f") 0) (place 1 11)

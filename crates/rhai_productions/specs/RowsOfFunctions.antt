@@ -1,27 +1,28 @@
 -- Worked rows of functions: lines, their written forms, and what is refused.
+use Rattle.std.specs.Prelude.{List, None, ℕ, [], codes, false, ◌++◌, ◌∷◌, ◌≡◌}
+use Rattle.rhai_lower.specs.Lexemes.{Comment, Lexeme, Name, Sign}
+use Rattle.rhai_lower.specs.Nodes as node
+use Rattle.rhai_lower.specs.Positions.{place}
+use Rattle.rhai_lower.specs.declared.token.Token.TheVariants as token
 use Rattle.rhai_grammar.specs.Causes.{refusal}
 use Rattle.rhai_grammar.specs.Causes as cause
 use Rattle.rhai_grammar.specs.Contexts.{Context}
 use Rattle.rhai_grammar.specs.Delivered.{code}
 use Rattle.rhai_grammar.specs.Libraries.{Ended}
 use Rattle.rhai_grammar.specs.RowStreams.{between, holding, on_global_level, unread}
-use Rattle.rhai_lower.specs.Lexemes.{Comment, Lexeme, Name, Sign}
-use Rattle.rhai_lower.specs.Nodes as node
-use Rattle.rhai_lower.specs.Positions.{place}
-use Rattle.rhai_lower.specs.declared.token.Token.TheVariants as token
 use Rattle.rhai_grammar.specs.Forms.{choose, form, given, if_not, must, must_here, open_form, part, this}
 use Rattle.rhai_grammar.specs.Promises.{Unwritten, Written, tree_of}
 use Rattle.rhai_productions.specs.RowsOfStatements.{variable}
-use Rattle.rhai_productions.specs.WorkedForms.{Fits, Misses, name_alone, script}
+use Rattle.rhai_productions.specs.WorkedForms.{name_alone}
 use Rattle.rhai_productions.specs.WorkedFunctions.{declares, documented, function, headed, no_parameters}
 use Rattle.rhai_productions.specs.WorkedFunctions.{one_parameter}
 use Rattle.rhai_productions.specs.WorkedOpenForms.{too_deep}
 use Rattle.rhai_productions.specs.WorkedOpenStatements.{open_block_at, open_declares, open_evaluates, open_first}
 use Rattle.rhai_productions.specs.WorkedOpenStatements.{open_function, open_many, open_single, refused_function}
+use Rattle.rhai_productions.specs.WorkedRows.{Fits, Misses, script}
 use Rattle.rhai_productions.specs.WorkedStatements.{closed, evaluates, first_of, followed_by, last_inside, many}
 use Rattle.rhai_productions.specs.WorkedStatements.{no_more, no_more_inside, written_as}
 use Rattle.rhai_productions.specs.WorkedTokens.{closing_brace}
-use Rattle.std.specs.Prelude.{List, None, ℕ, [], codes, false, map, ◌++◌, ◌+◌, ◌∷◌, ◌≡◌}
 
 -- `fn f(a) { a }`
 abbrev pub function_begun : List (Lexeme × ℕ)
@@ -43,8 +44,9 @@ depth_of_functions limit = record on_global_level {
 
 abbrev pub function_form : (limit : ℕ) → Written (script (depth_of_functions limit))
 function_form limit =
-    written_as (first_of (declares 1 (function (headed (codes "f") 4 (one_parameter 5 (codes "a") 6 7) 9 (closed (many
-    tt (first_of (evaluates (name_alone (codes "a") 11 (closing_brace 13)) tt) tt (last_inside 13))) 13)))) tt
+    written_as (
+    first_of (declares 1 (function (headed (codes "f") 4 (one_parameter 5 (codes "a") 6 7) 9 (closed (many tt (
+    first_of (evaluates (name_alone (codes "a") 11 (closing_brace 13)) tt) tt (last_inside 13))) 13)))) tt
     (followed_by (no_more 14)))
 
 -- the function of one parameter, to which its body refers by its slot
@@ -66,12 +68,14 @@ one_function = record {
 abbrev pub function_again : Unwritten (script (depth_of_functions 4))
 function_again =
     open_first (open_declares 1 (refused_function (headed (codes "f") 4 (one_parameter 5 (codes "a") 6 7) 9 (closed
-    (many tt (first_of (evaluates (name_alone (codes "a") 11 (closing_brace 13)) tt) tt (last_inside 13))) 13)))) tt
+    (many tt (
+    first_of (evaluates (name_alone (codes "a") 11 (closing_brace 13)) tt) tt (last_inside 13))) 13)))) tt
 
+-- up to the name in the body, which is too deep
 abbrev pub function_deep : Unwritten (script (depth_of_functions 3))
 function_deep =
-    open_first (open_declares 1 (open_function (codes "f") 4 (one_parameter 5 (codes "a") 6 7) 9 (open_many tt
-    (open_first (open_evaluates (Name (codes "a")) 11 tt (open_single (too_deep (Name (codes "a")) 11))) tt)))) tt
+    open_first (open_declares 1 (open_function (codes "f") 4 (one_parameter 5 (codes "a") 6 7) 9 (open_many tt (
+    open_first (open_evaluates (Name (codes "a")) 11 tt (open_single (too_deep (Name (codes "a")) 11))) tt)))) tt
 
 -- The script has the function and no statements. Where a function of that name and number of parameters has ended
 -- before, this one is refused at its `fn`, after its body. Under the depth limit 3 for functions the `a` of the body is
@@ -99,8 +103,9 @@ commented_rest =
 
 abbrev pub commented_form : Written (script on_global_level)
 commented_form =
-    written_as (first_of (documented (codes "/** a */") 1 10 (function (headed (codes "f") 13 (no_parameters 14) 17
-    (closed (many tt (no_more_inside 18)) 18)))) tt (followed_by (no_more 19)))
+    written_as (
+    first_of (documented (codes "/** a */") 1 10 (function (headed (codes "f") 13 (no_parameters 14) 17 (closed
+    (many tt (no_more_inside 18)) 18)))) tt (followed_by (no_more 19)))
 
 abbrev pub commented_function : Ended
 commented_function = record {
@@ -128,8 +133,9 @@ comment_before_end =
 
 abbrev pub comment_in_block : Unwritten (script on_global_level)
 comment_in_block =
-    open_first (open_block_at 1 (open_many tt (open_first (open_form (choose (Comment (codes "/** a */")) (place 1 3)
-    (this (Comment (codes "/** a */")) (place 1 3) must_here))) tt))) tt
+    open_first (open_block_at 1 (open_many tt (
+    open_first (open_form (choose (Comment (codes "/** a */")) (place 1 3) (this (Comment (codes "/** a */"))
+    (place 1 3) must_here))) tt))) tt
 
 -- The function has the comment. Before another statement or the end mark that is refused, and at once where a block's
 -- statement begins.

@@ -1,18 +1,20 @@
 -- Worked rows of modules: scripts, their written forms, and their trees.
-use Rattle.rhai_grammar.specs.Contexts.{Context}
-use Rattle.rhai_grammar.specs.RowStreams.{between, depth, on_global_level, unread}
+use Rattle.std.specs.Prelude.{Bool, List, None, Option, Some, ℕ, [], codes, false, true, ◌++◌, ◌∷◌, ◌≡◌}
 use Rattle.rhai_lower.specs.Lexemes.{Lexeme, Name, Sign, String}
 use Rattle.rhai_lower.specs.Nodes as node
 use Rattle.rhai_lower.specs.Positions.{nowhere, place}
 use Rattle.rhai_lower.specs.Slots.{fresh_slot}
 use Rattle.rhai_lower.specs.Texts.{Text}
 use Rattle.rhai_lower.specs.declared.token.Token.TheVariants as token
+use Rattle.rhai_grammar.specs.Contexts.{Context}
+use Rattle.rhai_grammar.specs.RowStreams.{between, depth, on_global_level, unread}
 use Rattle.rhai_grammar.specs.Promises.{Written, tree_of}
-use Rattle.rhai_productions.specs.WorkedForms.{Fits, alone, path_called, quoted, script}
-use Rattle.rhai_productions.specs.WorkedStatements.{bare, constant, evaluates, exports, first_of, imports, last_before}
+use Rattle.rhai_productions.specs.WorkedForms.{alone, quoted}
+use Rattle.rhai_productions.specs.WorkedLists.{path_called}
+use Rattle.rhai_productions.specs.WorkedRows.{Fits, script}
+use Rattle.rhai_productions.specs.WorkedStatements.{bare, evaluates, exports, first_of, imports, last_before}
 use Rattle.rhai_productions.specs.WorkedStatements.{lets, semicolon_then, written_as}
-use Rattle.rhai_productions.specs.WorkedTokens.{as_name, end_mark, semicolon}
-use Rattle.std.specs.Prelude.{Bool, List, None, Option, Some, ℕ, [], codes, false, true, ◌++◌, ◌+◌, ◌∷◌, ◌≡◌}
+use Rattle.rhai_productions.specs.WorkedTokens.{as_word, end_mark, semicolon}
 
 -- ---- two imports of one name
 
@@ -32,9 +34,10 @@ twice_tokens =
 
 abbrev pub twice_form : (c : Context) → Written (script c)
 twice_form c =
-    written_as (first_of (imports 1 (alone (quoted (codes "a") 8) (as_name 12)) 12 (codes "m") 15) tt (semicolon_then
-    16 (first_of (imports 18 (alone (quoted (codes "b") 25) (as_name 29)) 29 (codes "m") 32) tt (semicolon_then 33
-    (first_of (evaluates (alone (path_called (codes "m") 35 36 (codes "f") 38 39) (end_mark 41)) tt) tt
+    written_as (
+    first_of (imports 1 (alone (quoted (codes "a") 8) (as_word 12)) 12 (codes "m") 15) tt (semicolon_then 16 (
+    first_of (imports 18 (alone (quoted (codes "b") 25) (as_word 29)) 29 (codes "m") 32) tt (semicolon_then 33 (
+    first_of (evaluates (alone (path_called (codes "m") 35 36 (codes "f") 38 39) (end_mark 41)) tt) tt
     (last_before 41))))))
 
 abbrev pub imported : (at : ℕ) → Text → (source : ℕ) → Text → node.Statement
@@ -77,9 +80,11 @@ exported_tokens =
 
 abbrev pub exported_form : Written (script on_global_level)
 exported_form =
-    written_as (first_of (lets 1 (bare (codes "x") 5)) tt (semicolon_then 6 (first_of (lets 8 (bare (codes "y") 12)) tt
-    (semicolon_then 13 (first_of (exports 15 22 (bare (codes "x") 26)) tt (semicolon_then 27 (first_of (lets 29
-    (bare (codes "x") 33)) tt (last_before 34))))))))
+    written_as (
+    first_of (lets 1 (bare (codes "x") 5)) tt (semicolon_then 6 (
+    first_of (lets 8 (bare (codes "y") 12)) tt (semicolon_then 13 (
+    first_of (exports 15 22 (bare (codes "x") 26)) tt (semicolon_then 27 (
+    first_of (lets 29 (bare (codes "x") 33)) tt (last_before 34))))))))
 
 abbrev pub exported_tree : node.Statements
 exported_tree =

@@ -1,11 +1,5 @@
 -- Worked rows of statements: lines, their written forms and trees, and what is refused.
-use Rattle.rhai_grammar.specs.Causes.{Refusal, refusal}
-use Rattle.rhai_grammar.specs.Causes as cause
-use Rattle.rhai_grammar.specs.Contexts.{Context, has_single_blocks}
-use Rattle.rhai_grammar.specs.Delivered.{code}
-use Rattle.rhai_grammar.specs.RowStreams.{between, depth, unread}
-use Rattle.rhai_grammar.specs.Statements.{keyword_of}
-use Rattle.rhai_grammar.specs.Trees.{variable_of}
+use Rattle.std.specs.Prelude.{Bool, List, None, Option, Some, ℕ, [], codes, false, not, pos, true, ◌++◌, ◌∷◌, ◌≡◌}
 use Rattle.rhai_lower.specs.Lexemes.{Integer, Lexeme, Name, Sign}
 use Rattle.rhai_lower.specs.Nodes.{Node}
 use Rattle.rhai_lower.specs.Nodes as node
@@ -13,19 +7,25 @@ use Rattle.rhai_lower.specs.Positions.{place}
 use Rattle.rhai_lower.specs.Slots.{fresh_slot}
 use Rattle.rhai_lower.specs.Texts.{Text}
 use Rattle.rhai_lower.specs.declared.token.Token.TheVariants as token
+use Rattle.rhai_grammar.specs.Causes.{Refusal, refusal}
+use Rattle.rhai_grammar.specs.Causes as cause
+use Rattle.rhai_grammar.specs.Contexts.{Context, has_single_blocks}
+use Rattle.rhai_grammar.specs.Delivered.{code}
+use Rattle.rhai_grammar.specs.RowStreams.{between, depth, unread}
+use Rattle.rhai_grammar.specs.Statements.{keyword_of}
+use Rattle.rhai_grammar.specs.Trees.{variable_of}
 use Rattle.rhai_grammar.specs.Forms.{choose, form, given, if_not, must, never_here, open_form, part, take_here}
 use Rattle.rhai_grammar.specs.Forms.{this}
 use Rattle.rhai_grammar.specs.Promises.{Unwritten, Written, tree_of}
-use Rattle.rhai_productions.specs.WorkedForms.{Fits, IsTrue, Misses, alone, ends, formula, name_alone, number, run}
-use Rattle.rhai_productions.specs.WorkedForms.{script, unlinked, whole}
+use Rattle.rhai_productions.specs.WorkedForms.{alone, ends, name_alone, number, run, unlinked, whole}
 use Rattle.rhai_productions.specs.WorkedOpenForms.{open_part, too_deep}
 use Rattle.rhai_productions.specs.WorkedOpenStatements.{deep_let, open_block_at, open_evaluates, open_first, open_let}
 use Rattle.rhai_productions.specs.WorkedOpenStatements.{open_many, open_next, open_semicolon, refused_assignment}
+use Rattle.rhai_productions.specs.WorkedRows.{Fits, IsTrue, Misses, formula, script}
 use Rattle.rhai_productions.specs.WorkedStatements.{block_at, closed, constant, evaluates, first_of, followed_by}
 use Rattle.rhai_productions.specs.WorkedStatements.{last_inside, lets, many, no_more, one, semicolon_then, single}
 use Rattle.rhai_productions.specs.WorkedStatements.{valued, written_as}
 use Rattle.rhai_productions.specs.WorkedTokens.{closing_brace, end_mark, equals, semicolon}
-use Rattle.std.specs.Prelude.{Bool, List, None, Option, Some, ℕ, [], codes, false, not, pos, true, ◌++◌, ◌+◌, ◌∷◌, ◌≡◌}
 
 -- ---- nodes and tokens on the first line, each token at its column
 
@@ -63,11 +63,13 @@ scopes_tokens =
 -- under a context in which a block has statements
 abbrev pub scopes_form : (c : Context) → IsTrue (not (has_single_blocks c)) → Written (script c)
 scopes_form c so =
-    written_as (first_of (lets 1 (valued (codes "x") 5 7 (alone (number 1 9) (semicolon 10)))) tt (semicolon_then 10
-    (first_of (lets 12 (valued (codes "y") 16 18 (alone (number 2 20) (semicolon 21)))) tt (semicolon_then 21 (first_of
-    (block_at 23 (closed (many so (first_of (lets 25 (valued (codes "x") 29 31
-    (name_alone (codes "x") 33 (semicolon 34)))) tt (semicolon_then 34 (first_of (evaluates (name_alone (codes "x") 36
-    (closing_brace 38)) tt) tt (last_inside 38))))) 38)) tt (followed_by (no_more 39)))))))
+    written_as (
+    first_of (lets 1 (valued (codes "x") 5 7 (alone (number 1 9) (semicolon 10)))) tt (semicolon_then 10 (
+    first_of (lets 12 (valued (codes "y") 16 18 (alone (number 2 20) (semicolon 21)))) tt (semicolon_then 21 (
+    first_of (block_at 23 (closed (many so (
+    first_of (lets 25 (valued (codes "x") 29 31 (name_alone (codes "x") 33 (semicolon 34)))) tt (semicolon_then 34 (
+    first_of (evaluates (name_alone (codes "x") 36 (closing_brace 38)) tt) tt (last_inside 38))))) 38)) tt
+    (followed_by (no_more 39)))))))
 
 abbrev pub scopes_inner_tree : node.Statements
 scopes_inner_tree =
@@ -98,8 +100,9 @@ again_tokens = let_tokens 1 (codes "x") 5 7 1 9 10 ++ let_tokens 12 (codes "x") 
 
 abbrev pub again_form : Written (script (depth 64))
 again_form =
-    written_as (first_of (lets 1 (valued (codes "x") 5 7 (alone (number 1 9) (semicolon 10)))) tt (semicolon_then 10
-    (first_of (lets 12 (valued (codes "x") 16 18 (alone (number 2 20) (semicolon 21)))) tt
+    written_as (
+    first_of (lets 1 (valued (codes "x") 5 7 (alone (number 1 9) (semicolon 10)))) tt (semicolon_then 10 (
+    first_of (lets 12 (valued (codes "x") 16 18 (alone (number 2 20) (semicolon 21)))) tt
     (semicolon_then 21 (no_more 22)))))
 
 abbrev pub again_tree : node.Statements
@@ -127,10 +130,11 @@ constant_rest = (Sign token.SemiColon, 19) ∷ []
 abbrev pub constant_tokens : List (Lexeme × ℕ)
 constant_tokens = constant_begun ++ constant_rest
 
+-- up to the value of the assignment, after which that is refused
 abbrev pub constant_form : Unwritten (script (depth 64))
 constant_form =
-    open_next (constant 1 (valued (codes "x") 7 9 (alone (number 1 11) (semicolon 12)))) tt (open_semicolon 12
-    (open_first (open_evaluates (Name (codes "x")) 14 tt (refused_assignment (name_alone (codes "x") 14 (equals 16)) 16
+    open_next (constant 1 (valued (codes "x") 7 9 (alone (number 1 11) (semicolon 12)))) tt (open_semicolon 12 (
+    open_first (open_evaluates (Name (codes "x")) 14 tt (refused_assignment (name_alone (codes "x") 14 (equals 16)) 16
     (alone (number 2 18) (semicolon 19)))) tt))
 
 abbrev pub constant_refused : Refusal
@@ -147,15 +151,19 @@ open_tokens = (Sign token.LeftBrace, 1) ∷ (Integer (pos 1), 3) ∷ []
 abbrev pub ended_tokens : List (Lexeme × ℕ)
 ended_tokens = open_tokens ++ ((Sign token.SemiColon, 4) ∷ [])
 
+-- up to the `;` that is missing
 abbrev pub open_block : Unwritten (script (depth 64))
 open_block =
-    open_first (open_block_at 1 (open_many tt (open_next (evaluates (alone (number 1 3) (end_mark 4)) tt) tt (choose
-    (Sign token.EOF) (place 1 4) never_here)))) tt
+    open_first (open_block_at 1 (open_many tt (
+    open_next (evaluates (alone (number 1 3) (end_mark 4)) tt) tt (choose (Sign token.EOF) (place 1 4) never_here))))
+    tt
 
+-- up to the `}` that is missing
 abbrev pub ended_block : Unwritten (script (depth 64))
 ended_block =
-    open_first (open_block_at 1 (open_many tt (open_next (evaluates (alone (number 1 3) (semicolon 4)) tt) tt
-    (open_semicolon 4 (open_form (choose (Sign token.EOF) (place 1 5) never_here)))))) tt
+    open_first (open_block_at 1 (open_many tt (
+    open_next (evaluates (alone (number 1 3) (semicolon 4)) tt) tt (open_semicolon 4 (open_form (choose
+    (Sign token.EOF) (place 1 5) never_here)))))) tt
 
 pub record OpenBlockRow : Type 0 where
   pub missed : Misses (script (depth 64)) open_block (unread open_tokens 4)
@@ -173,6 +181,7 @@ single_rest = (Sign token.SemiColon, 4) ∷ (Integer (pos 2), 6) ∷ (Sign token
 abbrev pub single_blocks : Context
 single_blocks = record (depth 64) { settings = record { flags = 16; options = 0; level = 0; limit = 64 } }
 
+-- up to the `}` that is missing
 abbrev pub single_form : Unwritten (script single_blocks)
 single_form =
     open_first (open_block_at 1 (open_form (part _ (one tt (single (alone (number 1 3) (semicolon 4))))
@@ -214,12 +223,14 @@ let_rest = (Integer (pos 1), 9) ∷ (Sign token.SemiColon, 10) ∷ []
 
 abbrev pub let_form : (limit : ℕ) → Written (script (depth limit))
 let_form limit =
-    written_as (first_of (lets 1 (valued (codes "x") 5 7 (alone (number 1 9) (semicolon 10)))) tt
-    (semicolon_then 10 (no_more 11)))
+    written_as (
+    first_of (lets 1 (valued (codes "x") 5 7 (alone (number 1 9) (semicolon 10)))) tt (semicolon_then 10 (no_more 11)))
 
+-- up to the value, which is too deep under the limit 2
 abbrev pub let_value_deep : Unwritten (script (depth 2))
 let_value_deep = open_first (open_let 1 (codes "x") 5 7 (too_deep (Integer (pos 1)) 9)) tt
 
+-- up to the `=`, where the definition is too deep under the limit 1
 abbrev pub let_deep : Unwritten (script (depth 1))
 let_deep = open_first (deep_let 1 (codes "x") 5 7) tt
 

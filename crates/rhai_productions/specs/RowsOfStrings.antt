@@ -1,28 +1,28 @@
 -- Worked rows of interpolated strings and jumps: lines, their written forms and trees, and what is refused.
+use Rattle.std.specs.Prelude.{List, None, ℕ, [], codes, false, not, pos, reverse, ◌++◌, ◌∷◌, ◌≡◌}
+use Rattle.rhai_lower.specs.Lexemes.{Faulty, Integer, Interpolated, Lexeme, Name, Sign, String, UnexpectedInput}
+use Rattle.rhai_lower.specs.Nodes.{Node, no_nodes, no_statements, one_node, one_statement}
+use Rattle.rhai_lower.specs.Nodes as node
+use Rattle.rhai_lower.specs.Positions.{place}
+use Rattle.rhai_lower.specs.declared.token.Token.TheVariants as token
 use Rattle.rhai_grammar.specs.Causes.{Refusal, refusal}
 use Rattle.rhai_grammar.specs.Causes as cause
 use Rattle.rhai_grammar.specs.Contexts.{Context, has_single_blocks}
 use Rattle.rhai_grammar.specs.Delivered.{Ends, Point, Then, Tokens, code, item, past, text}
 use Rattle.rhai_grammar.specs.RowStreams.{between, depth, taken_from, unread}
 use Rattle.rhai_grammar.specs.Trees.{variable_of}
-use Rattle.rhai_lower.specs.Lexemes.{Faulty, Integer, Interpolated, Lexeme, Name, Sign, String, UnexpectedInput}
-use Rattle.rhai_lower.specs.Nodes.{Node, no_nodes, no_statements, one_node, one_statement}
-use Rattle.rhai_lower.specs.Nodes as node
-use Rattle.rhai_lower.specs.Positions.{place}
-use Rattle.rhai_lower.specs.declared.token.Token.TheVariants as token
 use Rattle.rhai_grammar.specs.Forms.{choose, form, given, must, never_here, open_form, part, part_here, take}
 use Rattle.rhai_grammar.specs.Forms.{text_here, this}
 use Rattle.rhai_grammar.specs.Promises.{Unwritten, Written, tree_of}
 use Rattle.rhai_productions.specs.RowsOfStatements.{integer}
-use Rattle.rhai_productions.specs.WorkedForms.{Fits, IsTrue, Misses, alone, ends, formula, joins, jump_right}
-use Rattle.rhai_productions.specs.WorkedForms.{name_alone, named, number, run, script, whole}
+use Rattle.rhai_productions.specs.WorkedForms.{alone, joins_last, jump_right, name_alone, named, number, run, whole}
 use Rattle.rhai_productions.specs.WorkedFunctions.{interpolated, last_segment}
 use Rattle.rhai_productions.specs.WorkedOpenForms.{open_operand, open_part, open_right, open_run, open_whole, too_deep}
 use Rattle.rhai_productions.specs.WorkedOpenStatements.{deep_jump, open_jump, open_next, open_return}
-use Rattle.rhai_productions.specs.WorkedStatements.{evaluates, first_of, giving, giving_nothing, last_inside, many}
-use Rattle.rhai_productions.specs.WorkedStatements.{returns}
-use Rattle.rhai_productions.specs.WorkedTokens.{closing_brace, end_mark, otherwise}
-use Rattle.std.specs.Prelude.{List, None, ℕ, [], codes, false, not, pos, reverse, ◌++◌, ◌+◌, ◌∷◌, ◌≡◌}
+use Rattle.rhai_productions.specs.WorkedRows.{Fits, IsTrue, Misses, formula, script}
+use Rattle.rhai_productions.specs.WorkedStatements.{evaluates, first_of, last_inside, many, returns, with_value}
+use Rattle.rhai_productions.specs.WorkedStatements.{without_value}
+use Rattle.rhai_productions.specs.WorkedTokens.{closing_brace, coalesce, end_mark}
 
 -- ---- interpolated strings
 
@@ -60,16 +60,18 @@ string_stream l = record { tokens = before string_begun (in_text_alone l 7 8); t
 -- `a${b}c`, under a context in which a block has statements
 abbrev pub string_form : (c : Context) → IsTrue (not (has_single_blocks c)) → Written (formula c)
 string_form c so =
-    whole (alone (interpolated (codes "a") 1 (last_segment 3 (many so (first_of (evaluates
-    (name_alone (codes "b") 4 (closing_brace 5)) tt) tt (last_inside 5))) 5 (codes "c") 7)) (end_mark 8))
+    whole (alone (interpolated (codes "a") 1 (last_segment 3 (many so (
+    first_of (evaluates (name_alone (codes "b") 4 (closing_brace 5)) tt) tt (last_inside 5))) 5 (codes "c") 7))
+    (end_mark 8))
 
 -- the same up to the last text, in place of which another token stands
 abbrev pub string_begun_form : (limit : ℕ) → Unwritten (formula (depth limit))
 string_begun_form limit =
     open_whole (open_operand (Interpolated (codes "a")) 1 (choose (Interpolated (codes "a")) (place 1 1) (open_part
     (choose (Interpolated (codes "a")) (place 1 1) (this (Interpolated (codes "a")) (place 1 1) (must (open_part (part
-    _ (form (take (Sign token.LeftBrace) (place 1 3) given)) (must (part _ (many tt (first_of (evaluates
-    (name_alone (codes "b") 4 (closing_brace 5)) tt) tt (last_inside 5))) (open_part (text_here (place 1 5)))))))))))))
+    _ (form (take (Sign token.LeftBrace) (place 1 3) given)) (must (part _ (many tt (
+    first_of (evaluates (name_alone (codes "b") 4 (closing_brace 5)) tt) tt (last_inside 5))) (open_part
+    (text_here (place 1 5)))))))))))))
 
 abbrev pub string_block : node.Block
 string_block =
@@ -109,8 +111,9 @@ jump_tokens = jump_begun ++ jump_rest
 
 abbrev pub jump_form : (c : Context) → Written (formula c)
 jump_form c =
-    whole (run (named (codes "a") 1 (otherwise 3)) (joins (otherwise 3) tt (jump_right (returns 6 (giving
-    (alone (number 1 13) (end_mark 14)))) tt) (ends (end_mark 14)) (ends (end_mark 14))))
+    whole (run (named (codes "a") 1 (coalesce 3)) (
+    joins_last (coalesce 3) tt (jump_right (returns 6 (with_value (alone (number 1 13) (end_mark 14)))) tt)
+    (end_mark 14)))
 
 abbrev pub jump_tree : Node
 jump_tree =
@@ -118,15 +121,19 @@ jump_tree =
     one_node (node.block_value (node.block_of_one (
     node.return_statement (node.present (integer 1 13)) false (place 1 6)))) no_nodes)) (place 1 3)
 
+-- up to the value, which is too deep under the limit 2
 abbrev pub jump_value_deep : Unwritten (formula (depth 2))
 jump_value_deep =
-    open_whole (open_run (named (codes "a") 1 (otherwise 3)) (open_right (otherwise 3) tt (open_form (choose
-    (Sign token.Return) (place 1 6) (part_here (open_return 6 (open_jump (too_deep (Integer (pos 1)) 13))))))))
+    open_whole (open_run (named (codes "a") 1 (coalesce 3)) (
+    open_right (coalesce 3) tt (open_form (choose (Sign token.Return) (place 1 6) (part_here (open_return 6 (open_jump
+    (too_deep (Integer (pos 1)) 13))))))))
 
+-- up to the `return`, which is too deep under the limit 1
 abbrev pub jump_deep : Unwritten (formula (depth 1))
 jump_deep =
-    open_whole (open_run (named (codes "a") 1 (otherwise 3)) (open_right (otherwise 3) tt (open_form (choose
-    (Sign token.Return) (place 1 6) (part_here (open_return 6 deep_jump))))))
+    open_whole (open_run (named (codes "a") 1 (coalesce 3)) (
+    open_right (coalesce 3) tt (open_form (choose (Sign token.Return) (place 1 6)
+    (part_here (open_return 6 deep_jump))))))
 
 pub record JumpRow : Type 0 where
   pub tree_is : tree_of (formula (depth 3)) (jump_form (depth 3)) ≡ jump_tree
@@ -143,8 +150,9 @@ return_begun = (Sign token.Return, 1) ∷ []
 abbrev pub return_rest : List (Lexeme × ℕ)
 return_rest = (Sign token.RightParen, 8) ∷ []
 
+-- up to the `;` that is missing
 abbrev pub return_form : Unwritten (script (depth 64))
-return_form = open_next (returns 1 giving_nothing) tt (choose (Sign token.RightParen) (place 1 8) never_here)
+return_form = open_next (returns 1 without_value) tt (choose (Sign token.RightParen) (place 1 8) never_here)
 
 pub record ReturnRow : Type 0 where
   pub missed : Misses (script (depth 64)) return_form (unread (return_begun ++ return_rest) 9)

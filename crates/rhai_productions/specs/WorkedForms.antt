@@ -1,73 +1,28 @@
--- Parts of written forms that worked rows have in common: operands, runs and lists. Each token is on the first line, at
--- its column. Where a test of tokens or settings has to hold, `tt` says so: it is evaluated.
-use Rattle.std.specs.Prelude.{ℕ, Bool, true, false, not, Option, Some, None, List, [], pos, if◌then◌else◌}
+-- Parts of written forms that worked rows have in common: operands and runs. Each token is on the first line, at its
+-- column. Where a test of tokens or settings has to hold, `tt` says so: it is evaluated.
+use Rattle.std.specs.Prelude.{ℕ, Bool, false, not, Option, Some, None, List, pos}
 use Rattle.rhai_lower.specs.Nodes as node
 use Rattle.rhai_lower.specs.declared.token.Token.TheVariants as token
-use Rattle.rhai_grammar.specs.Contexts.{nothing_live}
-use Rattle.rhai_grammar.specs.Delivered.{Mode, Point}
-use Rattle.rhai_grammar.specs.Demands.{Met, Missed}
-use Rattle.rhai_grammar.specs.Prelude.{Context, Integer, Link, LinkSpot, Live, Lexeme, Name, Node, Nodes, Position}
-use Rattle.rhai_grammar.specs.Prelude.{Refusal, Sign, String, Text, array, below_global, block_value, bracket_link, call_tree, chained, excludes_use}
-use Rattle.rhai_grammar.specs.Prelude.{in_block, level_up, made_block, member_link, name_tree, node_count, operand_start, operator_tree}
-use Rattle.rhai_grammar.specs.Prelude.{place, position_of, property, qualified, role_after, signed, spot_after_bracket, spot_after_dot}
-use Rattle.rhai_grammar.specs.Prelude.{spot_after_operand, unit, with_node}
-use Rattle.rhai_grammar.specs.Literals.{item_role}
+use Rattle.rhai_grammar.specs.Prelude.{Context, Integer, Link, LinkSpot, Live, Lexeme, Name, Node, Position}
+use Rattle.rhai_grammar.specs.Prelude.{Sign, String, Text, below_global, block_value, chained, excludes_use}
+use Rattle.rhai_grammar.specs.Prelude.{in_block, level_up, made_block, name_tree, operand_start, operator_tree}
+use Rattle.rhai_grammar.specs.Prelude.{place, position_of, role_after, signed}
+use Rattle.rhai_grammar.specs.Prelude.{spot_after_operand, unit}
 use Rattle.rhai_grammar.specs.declared.role.Beginning.TheVariants as begin
-use Rattle.rhai_grammar.specs.declared.role.ItemRole.{ItemRole}
-use Rattle.rhai_grammar.specs.declared.role.ItemRole.TheVariants as item
 use Rattle.rhai_grammar.specs.declared.role.OperandRole.{OperandRole}
 use Rattle.rhai_grammar.specs.declared.role.OperandRole.TheVariants.{AfterCoalesce, AfterRange, Elsewhere}
 use Rattle.rhai_grammar.specs.declared.role.OperandStart.{OperandStart}
 use Rattle.rhai_grammar.specs.declared.role.OperandStart.TheVariants as first
-use Rattle.rhai_grammar.specs.Goals as goal
-use Rattle.rhai_grammar.specs.Goals.{Goal, Val, Whole, Expression, Operand, RightOperand, Primary, Links, Script, Statement}
+use Rattle.rhai_grammar.specs.Goals.{Whole, Expression, Operand, RightOperand, Primary, Links, Statement}
 use Rattle.rhai_grammar.specs.Goals.{NextOperator, BinaryOp}
 use Rattle.rhai_grammar.specs.Strengths.{continues}
-use Rattle.rhai_grammar.specs.Productions as S
-use Rattle.rhai_grammar.specs.Productions.{Production}
 use Rattle.rhai_grammar.specs.Forms.{Form, Filled, form, given, take, this, if_so, if_not, choose, here, must}
 use Rattle.rhai_grammar.specs.Forms.{uses, part}
-use Rattle.rhai_grammar.specs.Promises.{Unwritten, Written, unwritten, written}
+use Rattle.rhai_grammar.specs.Promises.{Written}
 use Rattle.rhai_grammar.specs.Rules as P
 use Rattle.rhai_grammar.specs.Rules.{production}
+use Rattle.rhai_productions.specs.WorkedRows.{IsTrue, fails, holds}
 use Rattle.rhai_productions.specs.WorkedTokens.{After}
-
--- ---- what rows say
-
--- what is read where nothing is defined: one expression, or a script
-abbrev pub formula : Context → Goal
-formula c = Whole c nothing_live
-
-abbrev pub script : Context → Goal
-script c = Script c nothing_live
-
--- A form of a goal is met along a stream, from a point to another.
-pub record Fits (g : Goal) (f : Written g) (start end : Point) : Type 0 where
-  pub met : Met (written g f) start end
-
--- An open form misses its last demand, with this error, at a point.
-pub record Misses (g : Goal) (f : Unwritten g) (start : Point) (error : Refusal) (mode : Mode) (end : Point)
-    : Type 0
-  where
-    pub missed : Missed (unwritten g f) start error mode end
-
--- ---- tests that hold
-
-abbrev pub IsTrue : Bool → Type 0
-IsTrue true = Unit {0}
-IsTrue false = ⊥
-
--- the first of two ways, where a test holds
-abbrev pub holds : {h : Goal} {p : Production (Val h)} {x : Val h} (q : Production (Val h)) (b : Bool) → IsTrue b
-    → Filled production h p x → Filled production h (if b then p else q) x
-holds q true e f = f
-holds q false e f = absurd e
-
--- the second of two ways, where a test fails
-abbrev pub fails : {h : Goal} {q : Production (Val h)} {x : Val h} (p : Production (Val h)) (b : Bool)
-    → IsTrue (not b) → Filled production h q x → Filled production h (if b then p else q) x
-fails p true e f = absurd e
-fails p false e f = f
 
 -- ---- operands
 
@@ -82,12 +37,14 @@ abbrev pub linked : {c : Context} {w : Live} {x : Node} {ls : List Link} → For
     → Filled production (Operand c w) (P.operand_by c w begin.Value) (chained x ls)
 linked f links = part _ f (part _ (form (if_not (if_not given))) (part _ links (must given)))
 
+-- a number without links
 abbrev pub number : {c : Context} {w : Live} {o : Option (ℕ × Bool)} (n column : ℕ) → After c.filter o
     → Form production (Operand c w) (node.integer (pos n) (place 1 column))
 number n column t =
     form (choose (Integer (pos n)) (place 1 column) (linked (form (choose (Integer (pos n)) (place 1 column) (
     this (Integer (pos n)) (place 1 column) given))) (unlinked t)))
 
+-- a string without links
 abbrev pub quoted : {c : Context} {w : Live} {o : Option (ℕ × Bool)} (text : Text) (column : ℕ) → After c.filter o
     → Form production (Operand c w) (node.string text (place 1 column))
 quoted text column t =
@@ -100,6 +57,7 @@ abbrev pub name_before : {c : Context} {w : Live} (name : Text) (column : ℕ) (
 name_before name column l at =
     form (choose (Name name) (place 1 column) (this (Name name) (place 1 column) (uses l (place 1 at) given)))
 
+-- a name without links, which is not called
 abbrev pub named : {c : Context} {w : Live} {o : Option (ℕ × Bool)} (name : Text) (column : ℕ) (t : After c.filter o)
     → Form production (Operand c w) (name_tree w.slots (excludes_use t.token) name (place 1 column))
 named name column t =
@@ -176,15 +134,24 @@ joins {parent = parent} {op = op} t so y r z =
     holds _ (continues parent op.0 op.1) so (this t.token (place 1 t.column) (
     part _ y (part _ (next_of r).1 (must (part _ r (must (must (part _ z given))))))))))
 
+-- the same where the run ends after the right operand
+abbrev pub joins_last : {c : Context} {w : Live} {at : Position} {parent : ℕ} {x y : Node} {op : ℕ × Bool}
+    (t : After c.filter (Some op)) → IsTrue (continues parent op.0 op.1)
+    → Form production (RightOperand c w (role_after t.token)) y → After c.filter None
+    → Form production (BinaryOp c w at parent x) (operator_tree t.token (place 1 t.column) x y)
+joins_last t so y u = joins t so y (ends u) (ends u)
+
 -- an operand on the right of an operator that is no range and no `??`
 abbrev pub right : {c : Context} {w : Live} {x : Node} → Form production (Operand c w) x
     → Form production (RightOperand c w Elsewhere) x
 right f = form (choose (front f).0 (front f).1 (part _ f given))
 
+-- an operand is written there
 abbrev pub IsWritten : OperandStart → Type 0
 IsWritten first.Written = Unit {0}
 IsWritten _ = ⊥
 
+-- where an operand is written
 abbrev operand_there : {c : Context} {w : Live} {place : OperandRole} {x : Node} (start : OperandStart)
     → IsWritten start → Filled production (RightOperand c w place) (P.right_by c w first.Written) x
     → Filled production (RightOperand c w place) (P.right_by c w start) x
@@ -198,10 +165,12 @@ abbrev pub right_of_range : {c : Context} {w : Live} {x : Node} (f : Form produc
 right_of_range f so =
     form (choose (front f).0 (front f).1 (operand_there (operand_start AfterRange (front f).0) so (part _ f given)))
 
+-- a jump stands there
 abbrev pub IsJump : OperandStart → Type 0
 IsJump first.Jump = Unit {0}
 IsJump _ = ⊥
 
+-- where a jump stands
 abbrev jump_there : {c : Context} {w : Live} {place : OperandRole} {x : Node} (start : OperandStart) → IsJump start
     → Filled production (RightOperand c w place) (P.right_by c w first.Jump) x
     → Filled production (RightOperand c w place) (P.right_by c w start) x
@@ -247,107 +216,3 @@ name_alone name column t = run (named name column t) (ends t)
 -- an expression up to the end mark
 abbrev pub whole : {c : Context} {w : Live} {x : Node} → Form production (Expression c w) x → Written (Whole c w)
 whole {x = x} f = (x, form (part _ f (if_so given)))
-
--- ---- links
-
--- an index in brackets, and the links after it
-abbrev pub bracket : {w : Live} {spot : LinkSpot} {x : Node} {ls : List Link} (opening : ℕ)
-    → Form production (Expression (level_up (level_up spot.brackets)) w) x → (closing : ℕ)
-    → Form production (Links w (spot_after_bracket spot (bracket_link (Sign token.LeftBracket) (place 1 opening) x))) ls
-    → Form production (Links w spot) ls
-bracket opening f closing links =
-    form (choose (Sign token.LeftBracket) (place 1 opening) (this (Sign token.LeftBracket) (place 1 opening) (
-    must (must (part _ (form (part _ f (must (take (Sign token.RightBracket) (place 1 closing) given)))) (
-    part _ links given))))))
-
--- the same after `?[`
-abbrev pub question_bracket : {w : Live} {spot : LinkSpot} {x : Node} {ls : List Link} (opening : ℕ)
-    → Form production (Expression (level_up (level_up spot.brackets)) w) x → (closing : ℕ)
-    → Form production (Links w (spot_after_bracket spot
-    (bracket_link (Sign token.QuestionBracket) (place 1 opening) x))) ls
-    → Form production (Links w spot) ls
-question_bracket opening f closing links =
-    form (choose (Sign token.QuestionBracket) (place 1 opening) (this (Sign token.QuestionBracket) (place 1 opening) (
-    must (must (part _ (form (part _ f (must (take (Sign token.RightBracket) (place 1 closing) given)))) (
-    part _ links given))))))
-
--- a property after a dot, and the links after it
-abbrev pub dotted : {w : Live} {spot : LinkSpot} {ls : List Link} (dot : ℕ) (name : Text) (column : ℕ)
-    → Form production (Links w (spot_after_dot spot (member_link (Sign token.Period) (place 1 dot)
-    (property name (place 1 column))))) ls
-    → Form production (Links w spot) ls
-dotted dot name column links =
-    form (choose (Sign token.Period) (place 1 dot) (this (Sign token.Period) (place 1 dot) (
-    choose (Name name) (place 1 column) (must (part _ (form (this (Name name) (place 1 column) (
-    if_not (if_not given)))) (part _ links given))))))
-
--- ---- lists
-
--- the last argument, before the `)`
-abbrev pub last_argument : {c : Context} {w : Live} {before : Nodes} {x : Node} → Form production (Expression c w) x
-    → (closing : ℕ) → Form production (goal.Items c w before) (with_node before x)
-last_argument f closing =
-    form (part _ f (choose (Sign token.RightParen) (place 1 closing) (
-    this (Sign token.RightParen) (place 1 closing) given)))
-
--- a name that is called with arguments in parentheses
-abbrev pub called : {c : Context} {w : Live} {o : Option (ℕ × Bool)} {ns : Nodes} (name : Text) (column opening : ℕ)
-    → Form production (goal.Items (level_up c) w node.no_nodes) ns → After c.filter o
-    → Form production (Operand c w) (call_tree (name_tree w.slots true name (place 1 column)) false ns)
-called name column opening items t =
-    form (choose (Name name) (place 1 column) (part _ (name_before name column (Sign token.LeftParen) opening) (
-    part _ (form (if_not (if_so (part _ (form (choose (Sign token.LeftParen) (place 1 opening) (
-    this (Sign token.LeftParen) (place 1 opening) (part _ (form (if_not (if_not (must (part _ items given))))) given)))) (
-    must given))))) (part _ (unlinked t) (must given)))))
-
--- a name after `::` that is called with `()`
-abbrev pub path_called : {c : Context} {w : Live} {o : Option (ℕ × Bool)} (root : Text) (column colons : ℕ)
-    (name : Text) (at pair : ℕ) → After c.filter o
-    → Form production (Operand c w) (call_tree (qualified w.imports (name_tree w.slots true root (place 1 column)) name
-    (place 1 at)) false node.no_nodes)
-path_called root column colons name at pair t =
-    form (choose (Name root) (place 1 column) (part _ (name_before root column (Sign token.DoubleColon) colons) (
-    part _ (form (if_so (part _ (form (this (Sign token.DoubleColon) (place 1 colons) (
-    take (Name name) (place 1 at) (if_not given)))) (if_so (part _ (form (choose (Sign token.Unit) (place 1 pair) (
-    this (Sign token.Unit) (place 1 pair) given))) (must given)))))) (part _ (unlinked t) (must given)))))
-
-abbrev pub IsItem : ItemRole → Type 0
-IsItem item.Item = Unit {0}
-IsItem _ = ⊥
-
--- where an item of an array begins
-abbrev pub item_there : {c : Context} {w : Live} {at : Position} {before ns : Nodes} (role : ItemRole) → IsItem role
-    → Filled production (goal.Elements c w at before) (P.element_by c w at before item.Item) ns
-    → Filled production (goal.Elements c w at before) (P.element_by c w at before role) ns
-item_there item.Item so f = f
-item_there item.End so f = absurd so
-item_there item.Nothing so f = absurd so
-
--- an item of an array with the comma after it, and the items that follow
-abbrev pub element : {c : Context} {w : Live} {at : Position} {before ns : Nodes} {x : Node}
-    (f : Form production (Expression (level_up c) w) x)
-    → IsItem (item_role c.sizes.array (node_count before) (start f).0) → (comma : ℕ)
-    → Form production (goal.Elements c w at (with_node before x)) ns → Form production (goal.Elements c w at before) ns
-element {c} {before = before} f so comma rest =
-    form (choose (start f).0 (start f).1 (item_there (item_role c.sizes.array (node_count before) (start f).0) so (
-    must (part _ f (choose (Sign token.Comma) (place 1 comma) (
-    this (Sign token.Comma) (place 1 comma) (part _ rest given)))))))
-
--- the last item, before the `]`
-abbrev pub last_element : {c : Context} {w : Live} {at : Position} {before : Nodes} {x : Node}
-    (f : Form production (Expression (level_up c) w) x)
-    → IsItem (item_role c.sizes.array (node_count before) (start f).0) → (closing : ℕ)
-    → Form production (goal.Elements c w at before) (with_node before x)
-last_element {c} {before = before} f so closing =
-    form (choose (start f).0 (start f).1 (item_there (item_role c.sizes.array (node_count before) (start f).0) so (
-    must (part _ f (choose (Sign token.RightBracket) (place 1 closing) (
-    this (Sign token.RightBracket) (place 1 closing) given))))))
-
--- an array
-abbrev pub listed : {c : Context} {w : Live} {o : Option (ℕ × Bool)} {ns : Nodes} (opening : ℕ)
-    → Form production (goal.Elements (level_up c) w (place 1 opening) node.no_nodes) ns → After c.filter o
-    → Form production (Operand c w) (array ns (place 1 opening))
-listed opening items t =
-    form (choose (Sign token.LeftBracket) (place 1 opening) (linked (form (
-    choose (Sign token.LeftBracket) (place 1 opening) (this (Sign token.LeftBracket) (place 1 opening) (
-    must (part _ items given))))) (unlinked t)))

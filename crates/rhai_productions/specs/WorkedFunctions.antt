@@ -1,6 +1,6 @@
 -- Parts of written forms that worked rows have in common: constructs, functions and closures. Each token is on the
 -- first line, at its column. Where a test of tokens or settings has to hold, `tt` says so: it is evaluated.
-use Rattle.std.specs.Prelude.{ℕ, Bool, true, false, not, Option, Some, None, List, [], ◌∷◌, ◌++◌, if◌then◌else◌}
+use Rattle.std.specs.Prelude.{ℕ, Bool, true, false, not, Option, Some, None, List, [], ◌∷◌, if◌then◌else◌}
 use Rattle.rhai_lower.specs.Lexemes as lexeme
 use Rattle.rhai_lower.specs.Nodes as node
 use Rattle.rhai_lower.specs.Nodes.{for_statement}
@@ -12,7 +12,6 @@ use Rattle.rhai_grammar.specs.Prelude.{has_single_blocks, in_block, in_case, in_
 use Rattle.rhai_grammar.specs.Prelude.{loop_live, made_block, may_be_closure, noop, nothing_collected, parameters_live}
 use Rattle.rhai_grammar.specs.Prelude.{place, spot_after_operand, switch_tree, with_arm_collected, with_node}
 use Rattle.rhai_grammar.specs.Switches.{no_guard}
-use Rattle.rhai_grammar.specs.declared.list.CommaList.TheVariants as lists
 use Rattle.rhai_grammar.specs.declared.role.ArmRole.{ArmRole}
 use Rattle.rhai_grammar.specs.declared.role.ArmRole.TheVariants as arm
 use Rattle.rhai_grammar.specs.declared.role.Bars.{Bars}
@@ -27,11 +26,13 @@ use Rattle.rhai_grammar.specs.Forms.{Form, Filled, form, given, take, this, if_s
 use Rattle.rhai_grammar.specs.Forms.{adds, apart, captures, in_text, knows, literal, part}
 use Rattle.rhai_grammar.specs.Rules as P
 use Rattle.rhai_grammar.specs.Rules.{production}
-use Rattle.rhai_productions.specs.WorkedForms.{IsTrue, holds, linked, start, unlinked}
+use Rattle.rhai_productions.specs.WorkedForms.{ends, linked, run, start, unlinked}
+use Rattle.rhai_productions.specs.WorkedRows.{IsTrue, holds}
 use Rattle.rhai_productions.specs.WorkedTokens.{After}
 
 -- ---- loops
 
+-- where a construct is allowed as a statement
 abbrev construct_there : {c : Context} {w : Live} {x : node.Statement × Live} (k : Construct) (b : Bool) → IsTrue b
     → Filled production (Statement c w) (P.statement_by c w (first.Construct k)) x
     → Filled production (Statement c w) (P.statement_by c w (if b then first.Construct k else first.Expression)) x
@@ -59,6 +60,7 @@ for_each {c} at so names over body =
 
 -- ---- `switch`
 
+-- a `switch` with its arms
 abbrev pub switch : {c : Context} {w : Live} {x : Node} {all : Collected} (at : ℕ)
     → Form production (Expression (level_up (level_up c)) w) x → (opening : ℕ)
     → Form production (goal.Arms (level_up (level_up c)) w nothing_collected) all
@@ -67,10 +69,12 @@ switch at f opening arms =
     form (choose (Sign token.Switch) (place 1 at) (this (Sign token.Switch) (place 1 at) (must (must (part _ (form (
     part _ f (take (Sign token.LeftBrace) (place 1 opening) (part _ arms given)))) given)))))
 
+-- an arm with cases begins there
 abbrev pub IsCase : ArmRole → Type 0
 IsCase arm.Case = Unit {0}
 IsCase _ = ⊥
 
+-- where such an arm begins
 abbrev case_there : {c : Context} {w : Live} {before all : Collected} (role : ArmRole) → IsCase role
     → Filled production (goal.Arms c w before) (P.arms_by c w before arm.Case) all
     → Filled production (goal.Arms c w before) (P.arms_by c w before role) all
@@ -84,6 +88,7 @@ abbrev pub cased : {c : Context} {w : Live} {x : Node} → Form production (Expr
     → Form production (goal.Cases c w node.no_nodes) (with_node node.no_nodes x)
 cased f = form (part _ (form (literal _ f given)) (if_not given))
 
+-- where an arm does a statement
 abbrev action_as : {c : Context} {w : Live} {x : Node × Bool} (b : Bool) → IsTrue (not b)
     → Filled production (goal.Action c w) (P.action_by c w false) x
     → Filled production (goal.Action c w) (P.action_by c w b) x
@@ -114,6 +119,7 @@ arm_then f so arrow action end rest =
     part _ (form (if_not given)) (take (Sign token.DoubleArrow) (place 1 arrow) (
     part _ action (must (part _ end given))))))) (part _ rest given))))
 
+-- no further arm, but the `}`
 abbrev pub no_arm : {c : Context} {w : Live} {before : Collected} (closing : ℕ)
     → Form production (goal.Arms c w before) before
 no_arm closing =
@@ -121,6 +127,7 @@ no_arm closing =
 
 -- ---- functions
 
+-- an empty pair
 abbrev pub no_parameters : {function : Text} (column : ℕ) → Form production (goal.ParameterList function) []
 no_parameters column =
     form (choose (Sign token.Unit) (place 1 column) (this (Sign token.Unit) (place 1 column) given))
@@ -149,6 +156,7 @@ abbrev pub function : {c : Context} {w : Live} {comments : List Comment} {at fir
     → Form production (goal.FunctionStatement c w comments first at is_private) (noop at, w)
 function f = form (must (knows (must (part _ f (knows (adds given))))))
 
+-- a function as a statement
 abbrev pub declares : {c : Context} {w : Live} {f : node.Statement × Live} (at : ℕ)
     → Form production (goal.FunctionStatement c w [] (place 1 at) (place 1 at) false) f
     → Form production (Statement c w) f
@@ -166,6 +174,7 @@ documented text column at f =
 
 -- ---- interpolated strings
 
+-- an interpolated string up to its last text
 abbrev pub interpolated : {c : Context} {w : Live} {o : Option (ℕ × Bool)} {ns : Nodes} (text : Text) (column : ℕ)
     → Form production (goal.Segments (level_up c) w (place 1 column) (added_text node.no_nodes text (place 1 column))) ns
     → After c.filter o → Form production (Operand c w) (node.interpolated ns (place 1 column))
@@ -230,3 +239,18 @@ parameter_then {c} at name column closing so us n f links =
     choose (Name name) (place 1 column) (this (Name name) (place 1 column) (must (
     choose (Sign token.Pipe) (place 1 closing) (this (Sign token.Pipe) (place 1 closing) given)))))) (
     ended_by (name ∷ []) us n f)))) given))))) links))
+
+-- a closure alone, without links, before a token
+abbrev pub bars_alone : {c : Context} {w : Live} {f : node.Statement} (at : ℕ)
+    → IsTrue (may_be_closure (level_up c) bars.Pair) → (us : List Use) (n : ℕ)
+    → Form production (goal.ClosureBody (level_up (in_closure (level_up c) w)) (parameters_live [])) f
+    → After c.filter None → Form production (Expression c w) (closure_node (place 1 at) n us [] w)
+bars_alone at so us n f t = run (bars_then at so us n f (unlinked t)) (ends t)
+
+-- the same with one parameter
+abbrev pub parameter_alone : {c : Context} {w : Live} {f : node.Statement} (at : ℕ) (name : Text)
+    (column closing : ℕ) → IsTrue (may_be_closure (level_up c) bars.List) → (us : List Use) (n : ℕ)
+    → Form production (goal.ClosureBody (level_up (in_closure (level_up c) w)) (parameters_live (name ∷ []))) f
+    → After c.filter None → Form production (Expression c w) (closure_node (place 1 at) n us (name ∷ []) w)
+parameter_alone at name column closing so us n f t =
+    run (parameter_then at name column closing so us n f (unlinked t)) (ends t)

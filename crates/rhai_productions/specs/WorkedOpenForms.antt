@@ -1,6 +1,6 @@
 -- Parts of open forms that worked rows have in common: the way to the demand that is missed. Each token is on the first
 -- line, at its column.
-use Rattle.std.specs.Prelude.{ℕ, Bool, true, false, Option, Some, None, if◌then◌else◌}
+use Rattle.std.specs.Prelude.{ℕ, Bool, true, false, Option, Some, if◌then◌else◌}
 use Rattle.rhai_lower.specs.Nodes as node
 use Rattle.rhai_lower.specs.declared.token.Token.TheVariants as token
 use Rattle.rhai_grammar.specs.Literals.{item_role}
@@ -17,7 +17,9 @@ use Rattle.rhai_grammar.specs.Forms.{Form, Open, Stopped, form, open_form, this,
 use Rattle.rhai_grammar.specs.Forms.{part, part_here, must_here}
 use Rattle.rhai_grammar.specs.Rules as P
 use Rattle.rhai_grammar.specs.Rules.{production}
-use Rattle.rhai_productions.specs.WorkedForms.{IsItem, IsTrue, front, name_before, next_of, start}
+use Rattle.rhai_productions.specs.WorkedForms.{front, name_before, next_of, start}
+use Rattle.rhai_productions.specs.WorkedLists.{IsItem}
+use Rattle.rhai_productions.specs.WorkedRows.{IsTrue}
 use Rattle.rhai_productions.specs.WorkedTokens.{After}
 
 -- a part that is open
@@ -49,10 +51,10 @@ open_run f rest = open_form (here (front f).0 (front f).1 (must (part _ f (part_
 -- ---- operators
 
 -- the first of two ways, where a test holds
-abbrev pub holds : {h : Goal} {p : Production (Val h)} (q : Production (Val h)) (b : Bool) → IsTrue b
+abbrev pub holds_open : {h : Goal} {p : Production (Val h)} (q : Production (Val h)) (b : Bool) → IsTrue b
     → Stopped production h p → Stopped production h (if b then p else q)
-holds q true e f = f
-holds q false e f = absurd e
+holds_open q true e f = f
+holds_open q false e f = absurd e
 
 -- an operator that goes on with a run, and what follows it
 abbrev pub open_after : {c : Context} {w : Live} {at : Position} {parent : ℕ} {x : Node} {op : ℕ × Bool}
@@ -61,7 +63,7 @@ abbrev pub open_after : {c : Context} {w : Live} {at : Position} {parent : ℕ} 
     → Open production (BinaryOp c w at parent x)
 open_after {parent = parent} {op = op} t so rest =
     open_form (part _ (form (choose t.token (place 1 t.column) t.operator)) (
-    holds _ (continues parent op.0 op.1) so rest))
+    holds_open _ (continues parent op.0 op.1) so rest))
 
 -- an operator whose right operand is open
 abbrev pub open_right : {c : Context} {w : Live} {at : Position} {parent : ℕ} {x : Node} {op : ℕ × Bool}

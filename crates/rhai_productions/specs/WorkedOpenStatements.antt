@@ -1,10 +1,10 @@
 -- Parts of open forms of statements that worked rows have in common: the way to the demand that is missed. Each token
 -- is on the first line, at its column.
-use Rattle.std.specs.Prelude.{ℕ, Bool, true, false, not, Option, Some, None, List, []}
+use Rattle.std.specs.Prelude.{ℕ, Bool, true, false, not, List, []}
 use Rattle.rhai_lower.specs.Nodes as node
 use Rattle.rhai_lower.specs.declared.token.Token.TheVariants as token
-use Rattle.rhai_grammar.specs.Prelude.{Collected, Comment, Context, Ended, Lexeme, Live, Name, Node, Position, Sign, Text}
-use Rattle.rhai_grammar.specs.Prelude.{below_global, ends_itself, has_single_blocks, in_block, in_closure, in_function}
+use Rattle.rhai_grammar.specs.Prelude.{Comment, Context, Ended, Lexeme, Live, Name, Node, Position, Sign, Text}
+use Rattle.rhai_grammar.specs.Prelude.{below_global, ends_itself, has_single_blocks, in_block, in_function}
 use Rattle.rhai_grammar.specs.Prelude.{level_up, may_be_closure, nothing_collected, parameters_live, place}
 use Rattle.rhai_grammar.specs.Prelude.{statement_start, with_kept}
 use Rattle.rhai_grammar.specs.Statements.{statement_role}
@@ -18,13 +18,13 @@ use Rattle.rhai_grammar.specs.declared.role.StatementStart.{StatementStart}
 use Rattle.rhai_grammar.specs.declared.role.StatementStart.TheVariants as first
 use Rattle.rhai_grammar.specs.Goals as goal
 use Rattle.rhai_grammar.specs.Goals.{Expression, Operand, Statement, Statements, ExprStatement, Inside, Block}
-use Rattle.rhai_grammar.specs.Productions as S
 use Rattle.rhai_grammar.specs.Forms.{Form, Open, Stopped, form, open_form, take, this, if_so, if_not, choose, here}
 use Rattle.rhai_grammar.specs.Forms.{must, knows, given, part, part_here, must_here, knows_here}
 use Rattle.rhai_grammar.specs.Rules as P
 use Rattle.rhai_grammar.specs.Rules.{production}
-use Rattle.rhai_productions.specs.WorkedForms.{IsTrue, begun}
-use Rattle.rhai_productions.specs.WorkedOpenForms.{holds, open_part}
+use Rattle.rhai_productions.specs.WorkedForms.{begun}
+use Rattle.rhai_productions.specs.WorkedOpenForms.{holds_open, open_part}
+use Rattle.rhai_productions.specs.WorkedRows.{IsTrue}
 use Rattle.rhai_productions.specs.WorkedStatements.{IsExpression, IsStatement}
 
 -- ---- lists of statements
@@ -33,6 +33,7 @@ use Rattle.rhai_productions.specs.WorkedStatements.{IsExpression, IsStatement}
 abbrev pub open_begun : {c : Context} {w : Live} → Open production (Statement c w) → Lexeme × Position
 open_begun (open_form (choose l at f)) = (l, at)
 
+-- where a statement of a list begins
 abbrev statement_there : {closing : Closing} {c : Context} {w : Live} {before : node.Statements} (role : StatementRole)
     → IsStatement role
     → Stopped production (Statements closing c w before) (P.statements closing c w before stands.Statement)
@@ -77,6 +78,7 @@ open_followed rest = part_here rest
 
 -- ---- statements
 
+-- where an expression or assignment begins
 abbrev expression_there : {c : Context} {w : Live} (v : StatementStart) → IsExpression v
     → Stopped production (Statement c w) (P.statement_by c w first.Expression)
     → Stopped production (Statement c w) (P.statement_by c w v)
@@ -136,6 +138,7 @@ abbrev pub open_jump : {c : Context} {w : Live} {at : Position} → Open product
     → Open production (goal.Jump c w at)
 open_jump f = open_form (if_so (must (part_here f)))
 
+-- a `return` whose value is too deep or open
 abbrev pub open_return : {c : Context} {w : Live} (at : ℕ) → Open production (goal.Jump c w (place 1 at))
     → Open production (Statement c w)
 open_return at f =
@@ -143,6 +146,7 @@ open_return at f =
 
 -- ---- blocks
 
+-- where a block has statements
 abbrev inside_as : {c : Context} {w : Live} (b : Bool) → IsTrue (not b)
     → Stopped production (Inside c w) (P.inside_by c w false) → Stopped production (Inside c w) (P.inside_by c w b)
 inside_as false so f = f
@@ -188,6 +192,7 @@ abbrev pub refused_function : {c : Context} {w : Live} {comments : List Comment}
     → Open production (goal.FunctionStatement c w comments first at is_private)
 refused_function f = open_form (must (knows (must (part _ f knows_here))))
 
+-- a function as a statement, which is open or refused
 abbrev pub open_declares : {c : Context} {w : Live} (at : ℕ)
     → Open production (goal.FunctionStatement c w [] (place 1 at) (place 1 at) false)
     → Open production (Statement c w)
@@ -204,4 +209,4 @@ abbrev pub open_bars : {c : Context} {w : Live} (at : ℕ) → IsTrue (may_be_cl
     → Stopped production (Operand c w) (production (Operand c w))
 open_bars {c} at so f =
     choose (Sign token.Or) (place 1 at) (open_part (choose (Sign token.Or) (place 1 at) (
-    holds _ (may_be_closure c bars.Pair) so (this (Sign token.Or) (place 1 at) (part_here f)))))
+    holds_open _ (may_be_closure c bars.Pair) so (this (Sign token.Or) (place 1 at) (part_here f)))))

@@ -1,39 +1,38 @@
 -- Parts of written forms that worked rows have in common: statements, blocks and functions. Each token is on the first
 -- line, at its column. Where a test of tokens or settings has to hold, `tt` says so: it is evaluated.
-use Rattle.std.specs.Prelude.{ℕ, Bool, true, false, not, Option, Some, None, List, [], if◌then◌else◌}
-use Rattle.rhai_lower.specs.Lexemes.{Comment, String}
+use Rattle.std.specs.Prelude.{ℕ, Bool, true, false, not, Some, if◌then◌else◌}
 use Rattle.rhai_lower.specs.Nodes as node
 use Rattle.rhai_lower.specs.declared.token.Token.TheVariants as token
-use Rattle.rhai_grammar.specs.Prelude.{Context, Lexeme, Live, Name, Node, Position, Sign, Text, absent, allows_looping}
+use Rattle.rhai_grammar.specs.Prelude.{Context, Live, Name, Node, Position, Sign, Text, absent, allows_looping}
 use Rattle.rhai_grammar.specs.Prelude.{below_global, block_statement, braces, defined_as, definition_tree, ends_itself}
-use Rattle.rhai_grammar.specs.Prelude.{expression, has_single_blocks, import_tree, imported, in_block, in_function}
-use Rattle.rhai_grammar.specs.Prelude.{is_assignment, level_up, loop_body, loop_live, name_tree, nowhere, parameters_live}
+use Rattle.rhai_grammar.specs.Prelude.{expression, has_single_blocks, import_tree, imported, in_block}
+use Rattle.rhai_grammar.specs.Prelude.{level_up, nowhere}
 use Rattle.rhai_grammar.specs.Prelude.{place, present, return_statement, statement_start, unit, with_kept}
 use Rattle.rhai_grammar.specs.Statements.{statement_role}
-use Rattle.rhai_grammar.specs.Targets.{update_of}
 use Rattle.rhai_grammar.specs.declared.role.Closing.{Closing}
 use Rattle.rhai_grammar.specs.declared.role.Closing.TheVariants.{Brace, EndMark}
-use Rattle.rhai_grammar.specs.declared.role.Construct.TheVariants as kind
 use Rattle.rhai_grammar.specs.declared.role.StatementRole.{StatementRole}
 use Rattle.rhai_grammar.specs.declared.role.StatementRole.TheVariants as stands
 use Rattle.rhai_grammar.specs.declared.role.StatementStart.{StatementStart}
 use Rattle.rhai_grammar.specs.declared.role.StatementStart.TheVariants as first
 use Rattle.rhai_grammar.specs.Goals as goal
-use Rattle.rhai_grammar.specs.Goals.{Goal, Val, Expression, Statement, Statements, ExprStatement, Inside, Block, Script}
-use Rattle.rhai_grammar.specs.Productions as S
+use Rattle.rhai_grammar.specs.Goals.{Expression, Statement, Statements, ExprStatement, Inside, Block, Script}
 use Rattle.rhai_grammar.specs.Forms.{Form, Filled, form, given, take, this, if_so, if_not, choose, here, must}
-use Rattle.rhai_grammar.specs.Forms.{knows, adds, part}
+use Rattle.rhai_grammar.specs.Forms.{part}
 use Rattle.rhai_grammar.specs.Promises.{Written}
 use Rattle.rhai_grammar.specs.Rules as P
 use Rattle.rhai_grammar.specs.Rules.{production}
-use Rattle.rhai_productions.specs.WorkedForms.{IsTrue, begun, start}
+use Rattle.rhai_productions.specs.WorkedForms.{begun, start}
+use Rattle.rhai_productions.specs.WorkedRows.{IsTrue}
 
 -- ---- statements
 
+-- an expression or assignment begins there
 abbrev pub IsExpression : StatementStart → Type 0
 IsExpression first.Expression = Unit {0}
 IsExpression _ = ⊥
 
+-- where one begins
 abbrev expression_there : {c : Context} {w : Live} {x : node.Statement × Live} (v : StatementStart) → IsExpression v
     → Filled production (Statement c w) (P.statement_by c w first.Expression) x
     → Filled production (Statement c w) (P.statement_by c w v) x
@@ -80,6 +79,7 @@ abbrev pub bare : {c : Context} {w : Live} {at : Position} {constant exported : 
 bare name column =
     form (part _ (form (if_so (this (Name name) (place 1 column) (must given)))) (part _ (form (if_not given)) given))
 
+-- a definition of a variable, and one of a constant
 abbrev pub lets : {c : Context} {w : Live} {f : node.Statement × Live} (at : ℕ)
     → Form production (goal.Definition (level_up c) w (place 1 at) false false) f
     → Form production (Statement c w) f
@@ -112,10 +112,12 @@ imports at f as_at name column =
 
 -- ---- lists of statements
 
+-- a statement of a list begins there
 abbrev pub IsStatement : StatementRole → Type 0
 IsStatement stands.Statement = Unit {0}
 IsStatement _ = ⊥
 
+-- where one begins
 abbrev statement_there : {closing : Closing} {c : Context} {w : Live} {before : node.Statements}
     {x : node.Statements × Live} (role : StatementRole) → IsStatement role
     → Filled production (Statements closing c w before) (P.statements closing c w before stands.Statement) x
@@ -174,11 +176,13 @@ written_as {x = x} f = (x, f)
 
 -- ---- blocks
 
+-- where a block has statements
 abbrev inside_as : {c : Context} {w : Live} {x : node.Statements} (b : Bool) → IsTrue (not b)
     → Filled production (Inside c w) (P.inside_by c w false) x → Filled production (Inside c w) (P.inside_by c w b) x
 inside_as false so f = f
 inside_as true so f = absurd so
 
+-- where a block is one expression or assignment
 abbrev one_inside : {c : Context} {w : Live} {x : node.Statements} (b : Bool) → IsTrue b
     → Filled production (Inside c w) (P.inside_by c w true) x → Filled production (Inside c w) (P.inside_by c w b) x
 one_inside true so f = f
@@ -217,19 +221,21 @@ block_at at f =
 -- ---- jumps
 
 -- a value after a jump; and none
-abbrev pub giving : {c : Context} {w : Live} {at : Position} {x : Node}
+abbrev pub with_value : {c : Context} {w : Live} {at : Position} {x : Node}
     → Form production (Expression (level_up c) w) x → Form production (goal.Jump c w at) (present x)
-giving f = form (if_so (must (part _ f given)))
+with_value f = form (if_so (must (part _ f given)))
 
-abbrev pub giving_nothing : {c : Context} {w : Live} {at : Position} → Form production (goal.Jump c w at) absent
-giving_nothing = form (if_not (must given))
+abbrev pub without_value : {c : Context} {w : Live} {at : Position} → Form production (goal.Jump c w at) absent
+without_value = form (if_not (must given))
 
+-- a `return`
 abbrev pub returns : {c : Context} {w : Live} {x : node.Optional} (at : ℕ)
     → Form production (goal.Jump c w (place 1 at)) x
     → Form production (Statement c w) (return_statement x false (place 1 at), w)
 returns at f =
     form (choose (Sign token.Return) (place 1 at) (this (Sign token.Return) (place 1 at) (part _ f given)))
 
+-- where loops are allowed
 abbrev break_there : {c : Context} {w : Live} {x : node.Statement × Live} (b : Bool) → IsTrue b
     → Filled production (Statement c w) (P.statement_by c w first.Break) x
     → Filled production (Statement c w) (P.statement_by c w (if b then first.Break else first.Expression)) x

@@ -39,8 +39,8 @@ times n = record {
 }
 
 -- `..`
-abbrev pub to : {filter : ExprFilter} → ℕ → After filter (Some (140, false))
-to n = record {
+abbrev pub range : {filter : ExprFilter} → ℕ → After filter (Some (140, false))
+range n = record {
   token = Sign token.ExclusiveRange;
   column = n;
   no_link = λ w spot. must given;
@@ -48,8 +48,8 @@ to n = record {
 }
 
 -- `in`
-abbrev pub member_of : {filter : ExprFilter} → ℕ → After filter (Some (110, false))
-member_of n = record {
+abbrev pub membership : {filter : ExprFilter} → ℕ → After filter (Some (110, false))
+membership n = record {
   token = Sign token.In;
   column = n;
   no_link = λ w spot. must given;
@@ -57,8 +57,8 @@ member_of n = record {
 }
 
 -- `??`
-abbrev pub otherwise : {filter : ExprFilter} → ℕ → After filter (Some (135, false))
-otherwise n = record {
+abbrev pub coalesce : {filter : ExprFilter} → ℕ → After filter (Some (135, false))
+coalesce n = record {
   token = Sign token.DoubleQuestion;
   column = n;
   no_link = λ w spot. must given;
@@ -67,6 +67,7 @@ otherwise n = record {
 
 -- ---- other tokens
 
+-- the end mark
 abbrev pub end_mark : {filter : ExprFilter} → ℕ → After filter None
 end_mark n = record {
   token = Sign token.EOF;
@@ -148,8 +149,8 @@ equals n = record {
 }
 
 -- `as`
-abbrev pub as_name : {filter : ExprFilter} → ℕ → After filter None
-as_name n = record {
+abbrev pub as_word : {filter : ExprFilter} → ℕ → After filter None
+as_word n = record {
   token = Sign token.As;
   column = n;
   no_link = λ w spot. must given;

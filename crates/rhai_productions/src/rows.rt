@@ -1,16 +1,17 @@
 //! Worked rows of forms, as contracts of functions that do nothing.
 
 ghost use Rattle.rhai_productions.specs.RowsOfChains.{CaptureRow, GroupedRow, JoinedRow, QuestionedRow};
-ghost use Rattle.rhai_productions.specs.RowsOfClosures.{CaseRow, ClosureSumRow, DotRow, EmptyBodyRow, FunctionNameRow};
-ghost use Rattle.rhai_productions.specs.RowsOfClosures.{MemberRow, NestedRow, SecondFunctionRow, SlotRow};
+ghost use Rattle.rhai_productions.specs.RowsOfClosureBodies.{CaseRow, DotRow, EmptyBodyRow, SecondFunctionRow};
+ghost use Rattle.rhai_productions.specs.RowsOfClosures.{ClosureSumRow, FunctionNameRow, MemberRow, NestedRow, SlotRow};
 ghost use Rattle.rhai_productions.specs.RowsOfConstructs.{ArmRow, BreakRow, DefaultRow, IntegerRow, LoopRow, PipeRow};
 ghost use Rattle.rhai_productions.specs.RowsOfFunctions.{CommentRow, FunctionRow};
+ghost use Rattle.rhai_productions.specs.RowsOfLists.{CallRow, SizedRow};
 ghost use Rattle.rhai_productions.specs.RowsOfModules.{ExportedRow, TwiceRow};
+ghost use Rattle.rhai_productions.specs.RowsOfRanges.{EndedRow, MinusRow, OpenRow, RangedRow};
 ghost use Rattle.rhai_productions.specs.RowsOfStatements.{AgainRow, ConstantRow, LetRow, OpenBlockRow, ScopesRow};
 ghost use Rattle.rhai_productions.specs.RowsOfStatements.{SingleRow};
 ghost use Rattle.rhai_productions.specs.RowsOfStrings.{JumpRow, ReturnRow, StringRow};
-ghost use Rattle.rhai_productions.specs.RowsOfSums.{CallRow, EndedRow, FlatRow, LateRow, MinusRow, OpenRow, PairRow};
-ghost use Rattle.rhai_productions.specs.RowsOfSums.{RangedRow, SizedRow, SumRow};
+ghost use Rattle.rhai_productions.specs.RowsOfSums.{FlatRow, LateRow, PairRow, SumRow};
 
 /// `1 + 2 * 3` fits under the depth limit 3, with the product as the sum's right operand, and is too deep under the
 /// limit 2.
@@ -39,38 +40,38 @@ pub fn late_row()
 {}
 
 /// `..5` is a range from an omitted zero.
-#[tactic(auto, using(crate::proofs::SumRowLemmas::open_row))]
+#[tactic(auto, using(crate::proofs::RangeRowLemmas::open_row))]
 pub fn open_row()
     ensures { OpenRow }
 {}
 
 /// `-..5` is a range from an omitted zero with a sign, which is 0.
-#[tactic(auto, using(crate::proofs::SumRowLemmas::minus_row))]
+#[tactic(auto, using(crate::proofs::RangeRowLemmas::minus_row))]
 pub fn minus_row()
     ensures { MinusRow }
 {}
 
 /// `5..` is refused at the end mark, where an operand is expected.
-#[tactic(auto, using(crate::proofs::SumRowLemmas::ended_row))]
+#[tactic(auto, using(crate::proofs::RangeRowLemmas::ended_row))]
 pub fn ended_row()
     ensures { EndedRow }
 {}
 
-/// `f(1)` fits under the depth limit 3; under the limit 2 its argument is too deep, and under the limit 1 the list of
-/// arguments.
-#[tactic(auto, using(crate::proofs::SumRowLemmas::call_row))]
-pub fn call_row()
-    ensures { CallRow }
-{}
-
 /// `[5..]` is an array of a range to an omitted unit, which has the position of the `]`.
-#[tactic(auto, using(crate::proofs::SumRowLemmas::ranged_row))]
+#[tactic(auto, using(crate::proofs::RangeRowLemmas::ranged_row))]
 pub fn ranged_row()
     ensures { RangedRow }
 {}
 
+/// `f(1)` fits under the depth limit 3; under the limit 2 its argument is too deep, and under the limit 1 the list of
+/// arguments.
+#[tactic(auto, using(crate::proofs::ListRowLemmas::call_row))]
+pub fn call_row()
+    ensures { CallRow }
+{}
+
 /// `[1, 2, 3]` is refused at its third item if an array may have at most two items.
-#[tactic(auto, using(crate::proofs::SumRowLemmas::sized_row))]
+#[tactic(auto, using(crate::proofs::ListRowLemmas::sized_row))]
 pub fn sized_row()
     ensures { SizedRow }
 {}
@@ -249,13 +250,6 @@ pub fn nested_row()
     ensures { NestedRow }
 {}
 
-/// `||` has an empty body. It is refused where no function may begin, and `|| x`
-/// where variables have to be known.
-#[tactic(auto, using(crate::proofs::ClosureRowLemmas::empty_body_row))]
-pub fn empty_body_row()
-    ensures { EmptyBodyRow }
-{}
-
 /// `|| f` captures nothing after a function `f`.
 #[tactic(auto, using(crate::proofs::ClosureRowLemmas::function_name_row))]
 pub fn function_name_row()
@@ -263,19 +257,26 @@ pub fn function_name_row()
 {}
 
 /// In `|| {1}.x` the dot belongs to the closure.
-#[tactic(auto, using(crate::proofs::ClosureRowLemmas::dot_row))]
+#[tactic(auto, using(crate::proofs::ClosureBodyRowLemmas::dot_row))]
 pub fn dot_row()
     ensures { DotRow }
 {}
 
+/// `||` has an empty body. It is refused where no function may begin, and `|| x`
+/// where variables have to be known.
+#[tactic(auto, using(crate::proofs::ClosureBodyRowLemmas::empty_body_row))]
+pub fn empty_body_row()
+    ensures { EmptyBodyRow }
+{}
+
 /// In `switch 1 { || 1 | 2 => 3 }` the case is the closure of `1 | 2`.
-#[tactic(auto, using(crate::proofs::ClosureRowLemmas::case_row))]
+#[tactic(auto, using(crate::proofs::ClosureBodyRowLemmas::case_row))]
 pub fn case_row()
     ensures { CaseRow }
 {}
 
 /// `fn f() { || 1 }` is refused at its `||` where there may be one function.
-#[tactic(auto, using(crate::proofs::ClosureRowLemmas::second_function_row))]
+#[tactic(auto, using(crate::proofs::ClosureBodyRowLemmas::second_function_row))]
 pub fn second_function_row()
     ensures { SecondFunctionRow }
 {}
