@@ -14,7 +14,7 @@ use Rattle.rhai_grammar.specs.Causes.{is_for_memory}
 use Rattle.rhai_grammar.specs.Libraries.{Ended, Library}
 use Rattle.rhai_grammar.specs.Promises.{IsWrittenTo}
 use Rattle.rhai_reading.specs.Reading.{Script}
-use Rattle.rhai_productions.specs.Promised as promised
+use Rattle.rhai_grammar.specs.Promises as promised
 use Rattle.rhai_grammar.specs.Promises.{Written}
 use Rattle.rhai_grammar.specs.Rules.{production}
 use Rattle.rhai_productions.specs.UseLaws.{AllReadTheirUses, ReadsItsUses}

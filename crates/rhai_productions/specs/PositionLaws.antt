@@ -10,7 +10,8 @@ use Rattle.rhai_lower.specs.Positions.{place}
 use Rattle.rhai_lower.specs.declared.position.Position.{Position}
 use Rattle.rhai_grammar.specs.Delivered.{Item, code, next_at}
 use Rattle.rhai_grammar.specs.RowStreams.{between}
-use Rattle.rhai_productions.specs.RowsOfSums.{ended_tokens, pair_tokens}
+use Rattle.rhai_productions.specs.RowsOfRanges.{ended_tokens}
+use Rattle.rhai_productions.specs.RowsOfSums.{pair_tokens}
 use mathlib.Core.Logic.{inl, inr}
 
 -- This is the position of one of these tokens, or of the one that comes next. At the end of a stream, that is the end
