@@ -1,13 +1,13 @@
 -- Worked rows under a new engine's settings, which are what it hands over at its two entries.
 use Rattle.std.specs.Prelude.{List, None, ℕ, [], codes, false, ◌++◌, ◌∷◌, ◌≡◌}
 use Rattle.rhai_lower.specs.Lexemes.{Interpolated, Lexeme, Name, Sign, String}
-use Rattle.rhai_lower.specs.Nodes.{Node}
 use Rattle.rhai_lower.specs.Nodes as node
+use Rattle.rhai_lower.specs.Nodes.{Node}
 use Rattle.rhai_lower.specs.Positions.{place}
 use Rattle.rhai_lower.specs.Slots.{fresh_slot}
 use Rattle.rhai_lower.specs.declared.token.Token.TheVariants as token
-use Rattle.rhai_grammar.specs.Causes.{Refusal, refusal}
 use Rattle.rhai_grammar.specs.Causes as cause
+use Rattle.rhai_grammar.specs.Causes.{Refusal, refusal}
 use Rattle.rhai_grammar.specs.Contexts.{Context, has_single_blocks, nothing_live}
 use Rattle.rhai_grammar.specs.Delivered.{code, past, text}
 use Rattle.rhai_grammar.specs.EntryContexts.{at_entry, entry_expression, entry_script}
@@ -31,7 +31,7 @@ use Rattle.rhai_productions.specs.WorkedOpenForms.{open_operand, open_part, open
 use Rattle.rhai_productions.specs.WorkedOpenStatements.{no_room, open_declares, open_evaluates, open_first}
 use Rattle.rhai_productions.specs.WorkedOpenStatements.{open_followed, open_jump, open_next, open_return, open_single}
 use Rattle.rhai_productions.specs.WorkedOpenStatements.{refused_function}
-use Rattle.rhai_productions.specs.WorkedRows.{Fits, IsTrue, Misses, formula, script}
+use Rattle.rhai_productions.specs.WorkedRows.{Fits, Holds, Misses, formula, script}
 use Rattle.rhai_productions.specs.WorkedStatements.{closed, many, no_more_inside, one, single}
 use Rattle.rhai_productions.specs.WorkedTokens.{closing_brace, end_mark}
 
@@ -155,12 +155,12 @@ pub record LoopEnters : Type 0 where
 -- ---- `a${b}c` as an interpolated string, and with a name in the place of the last text
 
 -- In an expression the block is one expression, too.
-abbrev pub string_form : (c : Context) → IsTrue (has_single_blocks c) → Written (formula c)
+abbrev pub string_form : (c : Context) → Holds (has_single_blocks c) → Written (formula c)
 string_form c so =
     whole (alone (interpolated (codes "a") 1 (last_segment 3 (one so (single (name_alone (codes "b") 4
     (closing_brace 5)))) 5 (codes "c") 7)) (end_mark 8))
 
-abbrev pub string_begun_form : (c : Context) → IsTrue (has_single_blocks c) → Unwritten (formula c)
+abbrev pub string_begun_form : (c : Context) → Holds (has_single_blocks c) → Unwritten (formula c)
 string_begun_form c so =
     open_whole (open_operand (Interpolated (codes "a")) 1 (choose (Interpolated (codes "a")) (place 1 1) (open_part
     (choose (Interpolated (codes "a")) (place 1 1) (this (Interpolated (codes "a")) (place 1 1) (must (open_part (part
