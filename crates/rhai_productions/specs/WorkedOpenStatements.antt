@@ -1,12 +1,12 @@
 -- Parts of open forms of statements that worked rows have in common: the way to the demand that is missed. Each token
 -- is on the first line, at its column.
-use Rattle.std.specs.Prelude.{Bool, List, ℕ, [], false, not, true}
+use Rattle.std.specs.Prelude.{Bool, List, ℕ, [], false, not, true, ◌∷◌}
 use Rattle.rhai_lower.specs.Nodes as node
 use Rattle.rhai_lower.specs.declared.token.Token.TheVariants as token
 use Rattle.rhai_grammar.specs.Prelude.{Comment, Context, Ended, Lexeme, Live, Name, Node, Position, Sign, Text}
-use Rattle.rhai_grammar.specs.Prelude.{below_global, ends_itself, has_single_blocks, in_block, in_function, level_up}
-use Rattle.rhai_grammar.specs.Prelude.{may_be_closure, nothing_collected, parameters_live, place, statement_start}
-use Rattle.rhai_grammar.specs.Prelude.{with_kept}
+use Rattle.rhai_grammar.specs.Prelude.{below_global, ends_itself, has_single_blocks, in_block, in_closure, in_function}
+use Rattle.rhai_grammar.specs.Prelude.{level_up, may_be_closure, nothing_collected, parameters_live, place}
+use Rattle.rhai_grammar.specs.Prelude.{statement_start, with_kept}
 use Rattle.rhai_grammar.specs.Statements.{statement_role}
 use Rattle.rhai_grammar.specs.declared.role.Bars.{Bars}
 use Rattle.rhai_grammar.specs.declared.role.Bars.TheVariants as bars
@@ -18,8 +18,8 @@ use Rattle.rhai_grammar.specs.declared.role.StatementStart.{StatementStart}
 use Rattle.rhai_grammar.specs.declared.role.StatementStart.TheVariants as first
 use Rattle.rhai_reading.specs.Goals as goal
 use Rattle.rhai_reading.specs.Reading.{Block, ExprStatement, Expression, Inside, Operand, Statement, Statements}
-use Rattle.rhai_productions.specs.Derived.{Form, Open, Stopped, choose, form, given, here, if_not, if_so, knows}
-use Rattle.rhai_productions.specs.Derived.{knows_here, must, must_here, open_form, part, part_here, take, this}
+use Rattle.rhai_productions.specs.Derived.{Form, Open, Stopped, apart_here, choose, form, given, here, if_not, if_so}
+use Rattle.rhai_productions.specs.Derived.{knows, knows_here, must, must_here, open_form, part, part_here, take, this}
 use Rattle.rhai_productions.specs.Rules as P
 use Rattle.rhai_productions.specs.Rules.{production}
 use Rattle.rhai_productions.specs.WorkedForms.{begun}
@@ -211,3 +211,20 @@ abbrev pub open_bars : {c : Context} {w : Live} (at : ℕ) → Holds (may_be_clo
 open_bars {c} at so f =
     choose (Sign token.Or) (place 1 at) (open_part (choose (Sign token.Or) (place 1 at) (
     holds_open _ (may_be_closure c bars.Pair) so (this (Sign token.Or) (place 1 at) (part_here f)))))
+
+-- the same with parameters
+abbrev pub open_pipe : {c : Context} {w : Live} (at : ℕ) → Holds (may_be_closure c bars.List)
+    → Open production (goal.Closure c w (place 1 at) bars.List)
+    → Stopped production (Operand c w) (production (Operand c w))
+open_pipe {c} at so f =
+    choose (Sign token.Pipe) (place 1 at) (open_part (choose (Sign token.Pipe) (place 1 at) (
+    holds_open _ (may_be_closure c bars.List) so (this (Sign token.Pipe) (place 1 at) (part_here f)))))
+
+-- a closure with one parameter, whose statement is open
+abbrev pub open_doing : {c : Context} {w : Live} {at : Position} (name : Text) (column closing : ℕ)
+    → Open production (Statement (level_up (in_closure c w)) (parameters_live (name ∷ [])))
+    → Open production (goal.Closure c w at bars.List)
+open_doing name column closing s =
+    open_form (knows (part _ (form (choose (Name name) (place 1 column) (this (Name name) (place 1 column) (must (
+    choose (Sign token.Pipe) (place 1 closing) (this (Sign token.Pipe) (place 1 closing) given)))))) (must (
+    apart_here (open_form (if_not (part_here s)))))))
