@@ -1,8 +1,8 @@
 -- The worked rows of chains, by evaluation.
 use Rattle.std.proofs.Common.{refl}
 use Rattle.rhai_grammar.specs.Prelude.{number, one_more}
-use Rattle.rhai_productions.specs.RowsOfChains.{CaptureRow, GroupedRow, JoinedRow, QuestionedRow}
 use Rattle.rhai_productions.proofs.Evaluation.{fits, misses}
+use Rattle.rhai_productions.specs.RowsOfChains.{CaptureRow, GroupedRow, JoinedRow, QuestionedRow}
 
 pub grouped_row : GroupedRow
 unfolding one_more number

@@ -1,8 +1,8 @@
 -- The worked rows of closures and their bodies, by evaluation.
 use Rattle.std.proofs.Common.{refl}
 use Rattle.rhai_grammar.specs.Prelude.{last_hex_digits, names_function, number, one_more}
-use Rattle.rhai_productions.specs.RowsOfClosureBodies.{CaseRow, DotRow, EmptyBodyRow, SecondFunctionRow}
 use Rattle.rhai_productions.proofs.Evaluation.{fits, misses}
+use Rattle.rhai_productions.specs.RowsOfClosureBodies.{CaseRow, DotRow, EmptyBodyRow, SecondFunctionRow}
 
 pub dot_row : DotRow
 unfolding one_more number last_hex_digits names_function

@@ -1,8 +1,8 @@
 -- The worked rows of closures, by evaluation.
 use Rattle.std.proofs.Common.{refl}
 use Rattle.rhai_grammar.specs.Prelude.{last_hex_digits, names_function, number, one_more}
-use Rattle.rhai_productions.specs.RowsOfClosures.{ClosureSumRow, FunctionNameRow, MemberRow, NestedRow, SlotRow}
 use Rattle.rhai_productions.proofs.Evaluation.{fits}
+use Rattle.rhai_productions.specs.RowsOfClosures.{ClosureSumRow, FunctionNameRow, MemberRow, NestedRow, SlotRow}
 
 pub member_row : MemberRow
 unfolding one_more number last_hex_digits names_function

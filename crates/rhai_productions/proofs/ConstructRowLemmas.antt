@@ -1,8 +1,8 @@
 -- The worked rows of loops and `switch`, by evaluation.
 use Rattle.std.proofs.Common.{refl}
 use Rattle.rhai_grammar.specs.Prelude.{number, one_more}
-use Rattle.rhai_productions.specs.RowsOfConstructs.{ArmRow, BreakRow, DefaultRow, IntegerRow, LoopRow, PipeRow}
 use Rattle.rhai_productions.proofs.Evaluation.{fits, misses}
+use Rattle.rhai_productions.specs.RowsOfConstructs.{ArmRow, BreakRow, DefaultRow, IntegerRow, LoopRow, PipeRow}
 
 pub loop_row : LoopRow
 unfolding one_more number

@@ -1,9 +1,10 @@
 -- The worked rows of the entry points, by evaluation.
 use Rattle.std.proofs.Common.{refl}
-use Rattle.rhai_grammar.specs.Prelude.{kept_after, kept_comments, last_hex_digits, module_number, names_function, number, one_more}
+use Rattle.rhai_grammar.specs.Prelude.{kept_after, kept_comments, last_hex_digits, module_number, names_function}
+use Rattle.rhai_grammar.specs.Prelude.{number, one_more}
+use Rattle.rhai_productions.proofs.Evaluation.{fits, misses}
 use Rattle.rhai_productions.specs.RowsOfEntries.{ChainsEnter, ClosuresEnter, EqualFunctionsEnter, ImportsEnter}
 use Rattle.rhai_productions.specs.RowsOfEntries.{LoopEnters, RangesEnter, ScopesEnter, StringEnters, SumsEnter}
-use Rattle.rhai_productions.proofs.Evaluation.{fits, misses}
 
 pub sums_enter : SumsEnter
 unfolding one_more number names_function kept_after kept_comments module_number last_hex_digits

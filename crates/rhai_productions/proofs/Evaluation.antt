@@ -1,10 +1,11 @@
 -- Demands that are met or missed by evaluation: what is left to show are equations.
-use Rattle.std.proofs.Common.{◌≡◌, true, false, refl, subst, inl, inr}
+use Rattle.std.proofs.Common.{false, inl, inr, refl, subst, true, ◌≡◌}
 use Rattle.rhai_lower.specs.Lexemes.{Lexeme}
 use Rattle.rhai_lower.specs.Positions.{nowhere}
 use Rattle.rhai_lower.specs.declared.position.Position.{Position}
 use Rattle.rhai_grammar.specs.Causes.{ExprTooDeep, Refusal, as_literal, refusal}
-use Rattle.rhai_grammar.specs.Delivered.{Item, Mode, code, Point, adding, apart, next_at, past, capturing, with_captured}
+use Rattle.rhai_grammar.specs.Delivered.{Item, Mode, Point, adding, apart, capturing, code, next_at, past}
+use Rattle.rhai_grammar.specs.Delivered.{with_captured}
 use Rattle.rhai_grammar.specs.Demands.{Adds, Ahead, Apart, Blames, Captures, Demands, Fine, HasCaptured, Literally, Met}
 use Rattle.rhai_grammar.specs.Demands.{Missed, Next, Nothing, Otherwise, Refused, Shape, Test, TestIn, Tok, Uses}
 use Rattle.rhai_grammar.specs.Demands.{Verdict, Wrong, verdict, ◌▸◌}
@@ -131,7 +132,8 @@ MissesLast (Captures holds why captures u ▸ Nothing) s e m t =
 MissesLast (Captures holds why captures u ▸ (d ▸ rest)) s e m t =
     (holds s.library ≡ true) × MissesLast (d ▸ rest) (capturing (captures s.library) u s) e m t
 MissesLast (Shape holds ▸ rest) s e m t = (holds ≡ true) × MissesLast rest s e m t
-MissesLast (Literally inner ▸ Nothing) s e m t = MissesLast inner s (blame inner s) m t × (e ≡ as_literal (blame inner s))
+MissesLast (Literally inner ▸ Nothing) s e m t =
+    MissesLast inner s (blame inner s) m t × (e ≡ as_literal (blame inner s))
 MissesLast (Literally inner ▸ (d ▸ rest)) s e m t = Meets inner s × MissesLast (d ▸ rest) (after inner s) e m t
 MissesLast (Apart inner number captured ▸ Nothing) s e m t = MissesLast inner (apart s) e m t
 MissesLast (Apart inner number captured ▸ (d ▸ rest)) s e m t =

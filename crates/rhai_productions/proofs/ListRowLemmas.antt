@@ -1,8 +1,8 @@
 -- The worked rows of calls and arrays, by evaluation.
 use Rattle.std.proofs.Common.{refl}
 use Rattle.rhai_grammar.specs.Prelude.{number, one_more}
-use Rattle.rhai_productions.specs.RowsOfLists.{CallRow, SizedRow}
 use Rattle.rhai_productions.proofs.Evaluation.{fits, misses}
+use Rattle.rhai_productions.specs.RowsOfLists.{CallRow, SizedRow}
 
 pub call_row : CallRow
 unfolding one_more number

@@ -1,8 +1,8 @@
 -- The worked rows of modules, by evaluation.
 use Rattle.std.proofs.Common.{refl}
 use Rattle.rhai_grammar.specs.Prelude.{module_number, number, one_more}
-use Rattle.rhai_productions.specs.RowsOfModules.{ExportedRow, TwiceRow}
 use Rattle.rhai_productions.proofs.Evaluation.{fits}
+use Rattle.rhai_productions.specs.RowsOfModules.{ExportedRow, TwiceRow}
 
 pub twice_row : TwiceRow
 unfolding one_more number module_number

@@ -1,8 +1,8 @@
 -- The worked rows of ranges, by evaluation.
 use Rattle.std.proofs.Common.{refl}
 use Rattle.rhai_grammar.specs.Prelude.{one_more}
-use Rattle.rhai_productions.specs.RowsOfRanges.{EndedRow, MinusRow, OpenRow, RangedRow}
 use Rattle.rhai_productions.proofs.Evaluation.{fits, misses}
+use Rattle.rhai_productions.specs.RowsOfRanges.{EndedRow, MinusRow, OpenRow, RangedRow}
 
 pub open_row : OpenRow
 unfolding one_more

@@ -1,8 +1,8 @@
 -- The worked rows of interpolated strings and jumps, by evaluation.
 use Rattle.std.proofs.Common.{refl}
 use Rattle.rhai_grammar.specs.Prelude.{number, one_more}
-use Rattle.rhai_productions.specs.RowsOfStrings.{JumpRow, ReturnRow, StringRow}
 use Rattle.rhai_productions.proofs.Evaluation.{fits, misses}
+use Rattle.rhai_productions.specs.RowsOfStrings.{JumpRow, ReturnRow, StringRow}
 
 pub string_row : StringRow
 unfolding one_more number

@@ -1,8 +1,8 @@
 -- The worked rows of sums and products, by evaluation.
 use Rattle.std.proofs.Common.{refl}
 use Rattle.rhai_grammar.specs.Prelude.{one_more}
-use Rattle.rhai_productions.specs.RowsOfSums.{FlatRow, LateRow, PairRow, SumRow}
 use Rattle.rhai_productions.proofs.Evaluation.{fits, misses}
+use Rattle.rhai_productions.specs.RowsOfSums.{FlatRow, LateRow, PairRow, SumRow}
 
 pub sum_row : SumRow
 unfolding one_more

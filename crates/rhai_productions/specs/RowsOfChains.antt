@@ -1,14 +1,14 @@
 -- Worked rows of chains: lines, their written forms and trees, and what is refused.
 use Rattle.std.specs.Prelude.{List, None, ℕ, [], codes, false, true, ◌∷◌, ◌≡◌}
 use Rattle.rhai_lower.specs.Lexemes.{Lexeme, Name, Sign}
-use Rattle.rhai_lower.specs.Nodes.{Node}
 use Rattle.rhai_lower.specs.Nodes as node
+use Rattle.rhai_lower.specs.Nodes.{Node}
 use Rattle.rhai_lower.specs.Positions.{place}
 use Rattle.rhai_lower.specs.Texts.{Text}
 use Rattle.rhai_lower.specs.declared.node.LinkFlags.{LinkFlags}
 use Rattle.rhai_lower.specs.declared.token.Token.TheVariants as token
-use Rattle.rhai_grammar.specs.Causes.{Refusal, refusal}
 use Rattle.rhai_grammar.specs.Causes as cause
+use Rattle.rhai_grammar.specs.Causes.{Refusal, refusal}
 use Rattle.rhai_grammar.specs.Contexts.{Context}
 use Rattle.rhai_grammar.specs.Delivered.{code}
 use Rattle.rhai_grammar.specs.RowStreams.{between, depth, unread}

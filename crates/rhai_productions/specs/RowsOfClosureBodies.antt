@@ -1,12 +1,12 @@
 -- Worked rows of closures and their bodies: lines, their written forms and trees, and what is refused.
 use Rattle.std.specs.Prelude.{List, None, ℕ, [], codes, false, pos, true, ◌++◌, ◌∷◌, ◌≡◌}
 use Rattle.rhai_lower.specs.Lexemes.{Integer, Lexeme, Name, Sign}
-use Rattle.rhai_lower.specs.Nodes.{Node}
 use Rattle.rhai_lower.specs.Nodes as node
+use Rattle.rhai_lower.specs.Nodes.{Node}
 use Rattle.rhai_lower.specs.Positions.{nowhere, place}
 use Rattle.rhai_lower.specs.declared.token.Token.TheVariants as token
-use Rattle.rhai_grammar.specs.Causes.{refusal}
 use Rattle.rhai_grammar.specs.Causes as cause
+use Rattle.rhai_grammar.specs.Causes.{refusal}
 use Rattle.rhai_grammar.specs.Closures.{closure_name}
 use Rattle.rhai_grammar.specs.Contexts.{Context}
 use Rattle.rhai_grammar.specs.Delivered.{code}
@@ -17,8 +17,7 @@ use Rattle.rhai_grammar.specs.Forms.{apart, captures_here, knows, must, open_for
 use Rattle.rhai_grammar.specs.Promises.{Unwritten, Written, tree_of}
 use Rattle.rhai_productions.specs.RowsOfClosures.{giving, names_at, pointer}
 use Rattle.rhai_productions.specs.RowsOfStatements.{integer}
-use Rattle.rhai_productions.specs.WorkedForms.{alone, ends, joins_last, name_alone, number, right, run, unlinked}
-use Rattle.rhai_productions.specs.WorkedForms.{whole}
+use Rattle.rhai_productions.specs.WorkedForms.{alone, ends, joins_last, name_alone, number, right, run, unlinked, whole}
 use Rattle.rhai_productions.specs.WorkedFunctions.{arm_then, bars_alone, bars_then, brace_after, does, doing}
 use Rattle.rhai_productions.specs.WorkedFunctions.{doing_nothing, no_arm, no_parameters, switch}
 use Rattle.rhai_productions.specs.WorkedLists.{dotted}

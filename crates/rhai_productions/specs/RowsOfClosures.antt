@@ -1,8 +1,8 @@
 -- Worked rows of closures and what they capture: lines, their written forms and trees.
 use Rattle.std.specs.Prelude.{List, None, Option, Some, ℕ, [], codes, false, length, map, ◌++◌, ◌∷◌, ◌≡◌}
 use Rattle.rhai_lower.specs.Lexemes.{Lexeme, Name, Sign}
-use Rattle.rhai_lower.specs.Nodes.{Node}
 use Rattle.rhai_lower.specs.Nodes as node
+use Rattle.rhai_lower.specs.Nodes.{Node}
 use Rattle.rhai_lower.specs.Positions.{nowhere, place}
 use Rattle.rhai_lower.specs.Texts.{Text}
 use Rattle.rhai_lower.specs.declared.token.Token.TheVariants as token
@@ -21,9 +21,9 @@ use Rattle.rhai_productions.specs.RowsOfFunctions.{one_function}
 use Rattle.rhai_productions.specs.RowsOfStatements.{definition, integer, let_tokens}
 use Rattle.rhai_productions.specs.WorkedForms.{alone, joins_last, name_alone, named, number, right, run, whole}
 use Rattle.rhai_productions.specs.WorkedFunctions.{bars_alone, doing, parameter_alone}
-use Rattle.rhai_productions.specs.WorkedRows.{Fits, IsTrue, formula, script}
-use Rattle.rhai_productions.specs.WorkedStatements.{evaluates, first_of, last_before, lets, semicolon_then}
-use Rattle.rhai_productions.specs.WorkedStatements.{valued, written_as}
+use Rattle.rhai_productions.specs.WorkedRows.{Fits, Holds, formula, script}
+use Rattle.rhai_productions.specs.WorkedStatements.{evaluates, first_of, last_before, lets, semicolon_then, valued}
+use Rattle.rhai_productions.specs.WorkedStatements.{written_as}
 use Rattle.rhai_productions.specs.WorkedTokens.{end_mark, membership, plus, semicolon}
 
 -- names at columns
@@ -65,7 +65,7 @@ abbrev pub member_tokens : List (Lexeme × ℕ)
 member_tokens = (Sign token.Or, 1) ∷ (Name (codes "x"), 4) ∷ (Sign token.In, 6) ∷ (Name (codes "y"), 9) ∷ []
 
 -- under a context in which a closure is an operand
-abbrev pub member_form : (c : Context) → IsTrue (may_be_closure c bars.Pair) → Written (formula c)
+abbrev pub member_form : (c : Context) → Holds (may_be_closure c bars.Pair) → Written (formula c)
 member_form c so =
     whole (bars_alone 1 so (names_at ((codes "x", 4) ∷ (codes "y", 9) ∷ [])) 0 (doing (evaluates (run
     (named (codes "x") 4 (membership 6)) (
@@ -90,7 +90,7 @@ sum_tokens =
     (Sign token.Pipe, 1) ∷ (Name (codes "x"), 2) ∷ (Sign token.Pipe, 3) ∷ (Name (codes "x"), 5)
     ∷ (Sign token.Plus, 7) ∷ (Name (codes "y"), 9) ∷ []
 
-abbrev pub sum_form : (c : Context) → IsTrue (may_be_closure c bars.List) → Written (formula c)
+abbrev pub sum_form : (c : Context) → Holds (may_be_closure c bars.List) → Written (formula c)
 sum_form c so =
     whole (parameter_alone 1 (codes "x") 2 3 so (names_at ((codes "y", 9) ∷ [])) 0 (doing (evaluates (run
     (named (codes "x") 5 (plus 7)) (
@@ -116,7 +116,7 @@ abbrev pub slot_tokens : List (Lexeme × ℕ)
 slot_tokens = let_tokens 1 (codes "x") 5 7 1 9 10 ++ ((Sign token.Or, 12) ∷ (Name (codes "x"), 15) ∷ [])
 
 -- the closure alone, wherever it stands
-abbrev pub slot_closure : (c : Context) (w : Live) → IsTrue (may_be_closure c bars.Pair) → Written (Expression c w)
+abbrev pub slot_closure : (c : Context) (w : Live) → Holds (may_be_closure c bars.Pair) → Written (Expression c w)
 slot_closure c w so = (
   _,
   bars_alone 12 so (names_at ((codes "x", 15) ∷ [])) 0 (doing (evaluates
@@ -141,7 +141,7 @@ slot_tree =
     node.one_statement (node.expression slot_value) node.no_statements)
 
 pub record SlotRow : Type 0 where
-  pub closure_is : (c : Context) (w : Live) (so : IsTrue (may_be_closure c bars.Pair))
+  pub closure_is : (c : Context) (w : Live) (so : Holds (may_be_closure c bars.Pair))
       → w.slots ≡ record { name = codes "x"; constant = false; aliases = [] } ∷ []
       → tree_of (Expression c w) (slot_closure c w so) ≡ slot_value
   pub tree_is : (tree_of (script with_closures) slot_form).0 ≡ slot_tree

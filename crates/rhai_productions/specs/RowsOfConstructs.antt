@@ -1,28 +1,27 @@
 -- Worked rows of loops and `switch`: lines, their written forms and trees, and what is refused.
 use Rattle.std.specs.Prelude.{List, None, Some, ℕ, [], codes, false, not, pos, true, ◌++◌, ◌∷◌, ◌≡◌}
 use Rattle.rhai_lower.specs.Lexemes.{Integer, Lexeme, Name, Sign}
-use Rattle.rhai_lower.specs.Nodes.{Node}
 use Rattle.rhai_lower.specs.Nodes as node
+use Rattle.rhai_lower.specs.Nodes.{Node}
 use Rattle.rhai_lower.specs.Positions.{nowhere, place}
 use Rattle.rhai_lower.specs.Slots.{fresh_slot}
 use Rattle.rhai_lower.specs.declared.token.Token.TheVariants as token
-use Rattle.rhai_grammar.specs.Causes.{refusal}
 use Rattle.rhai_grammar.specs.Causes as cause
+use Rattle.rhai_grammar.specs.Causes.{refusal}
 use Rattle.rhai_grammar.specs.Contexts.{Context, allows_looping, has_single_blocks, loop_body, nothing_live}
 use Rattle.rhai_grammar.specs.Delivered.{code}
 use Rattle.rhai_grammar.specs.Operators.{operator_call}
 use Rattle.rhai_grammar.specs.RowStreams.{between, depth, unread}
-use Rattle.rhai_grammar.specs.Forms.{choose, form, given, if_not, literal_here, must, must_here}
-use Rattle.rhai_grammar.specs.Forms.{open_form, part, take, take_here, this}
+use Rattle.rhai_grammar.specs.Forms.{choose, form, given, if_not, literal_here, must, must_here, open_form, part}
+use Rattle.rhai_grammar.specs.Forms.{take, take_here, this}
 use Rattle.rhai_grammar.specs.Promises.{Unwritten, Written, tree_of}
 use Rattle.rhai_productions.specs.RowsOfStatements.{begins, definition, integer, let_tokens, variable}
-use Rattle.rhai_productions.specs.WorkedForms.{alone, joins_last, name_alone, named, number, right, right_of_range}
-use Rattle.rhai_productions.specs.WorkedForms.{run}
+use Rattle.rhai_productions.specs.WorkedForms.{alone, joins_last, name_alone, named, number, right, right_of_range, run}
 use Rattle.rhai_productions.specs.WorkedFunctions.{arm_then, brace_after, cased, comma_after, does, for_each, no_arm}
 use Rattle.rhai_productions.specs.WorkedFunctions.{switch, two_names}
 use Rattle.rhai_productions.specs.WorkedOpenForms.{open_operand, open_part}
 use Rattle.rhai_productions.specs.WorkedOpenStatements.{open_first, open_switch}
-use Rattle.rhai_productions.specs.WorkedRows.{Fits, IsTrue, Misses, script}
+use Rattle.rhai_productions.specs.WorkedRows.{Fits, Holds, Misses, script}
 use Rattle.rhai_productions.specs.WorkedStatements.{braced, breaks, closed, evaluates, first_of, followed_by}
 use Rattle.rhai_productions.specs.WorkedStatements.{last_before, last_inside, lets, many, no_more, semicolon_then}
 use Rattle.rhai_productions.specs.WorkedStatements.{valued, without_value, written_as}
@@ -40,7 +39,7 @@ loop_tokens =
     ∷ (Sign token.Plus, 24) ∷ (Name (codes "i"), 26) ∷ (Sign token.RightBrace, 28) ∷ []
 
 -- under a context in which loops are allowed, and a block has statements
-abbrev pub loop_form : (c : Context) → IsTrue (allows_looping c) → IsTrue (not (has_single_blocks (loop_body c)))
+abbrev pub loop_form : (c : Context) → Holds (allows_looping c) → Holds (not (has_single_blocks (loop_body c)))
     → Written (script c)
 loop_form c loops so =
     written_as (

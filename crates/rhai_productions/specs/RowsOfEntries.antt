@@ -1,20 +1,19 @@
 -- Worked rows under a new engine's settings, which are what it hands over at its two entries.
 use Rattle.std.specs.Prelude.{List, None, ℕ, [], codes, false, ◌++◌, ◌∷◌, ◌≡◌}
 use Rattle.rhai_lower.specs.Lexemes.{Interpolated, Lexeme, Name, Sign, String}
-use Rattle.rhai_lower.specs.Nodes.{Node}
 use Rattle.rhai_lower.specs.Nodes as node
+use Rattle.rhai_lower.specs.Nodes.{Node}
 use Rattle.rhai_lower.specs.Positions.{place}
 use Rattle.rhai_lower.specs.Slots.{fresh_slot}
 use Rattle.rhai_lower.specs.declared.token.Token.TheVariants as token
-use Rattle.rhai_grammar.specs.Causes.{Refusal, refusal}
 use Rattle.rhai_grammar.specs.Causes as cause
+use Rattle.rhai_grammar.specs.Causes.{Refusal, refusal}
 use Rattle.rhai_grammar.specs.Contexts.{Context, has_single_blocks, nothing_live}
 use Rattle.rhai_grammar.specs.Delivered.{code, past, text}
 use Rattle.rhai_grammar.specs.EntryContexts.{at_entry, entry_expression, entry_script}
 use Rattle.rhai_grammar.specs.Libraries.{Ended, Library}
 use Rattle.rhai_grammar.specs.RowStreams.{between, holding, unread}
-use Rattle.rhai_grammar.specs.Forms.{apart_here, choose, form, given, if_not, knows, must, open_form, part}
-use Rattle.rhai_grammar.specs.Forms.{part_here, take, text_here, this}
+use Rattle.rhai_grammar.specs.Forms.{choose, form, given, must, part, take, text_here, this}
 use Rattle.rhai_grammar.specs.Promises.{Unwritten, Written, tree_of}
 use Rattle.rhai_productions.specs.RowsOfChains as chain
 use Rattle.rhai_productions.specs.RowsOfClosures as closure
@@ -28,10 +27,10 @@ use Rattle.rhai_productions.specs.WorkedForms.{alone, name_alone, whole}
 use Rattle.rhai_productions.specs.WorkedFunctions.{declares, function, headed, interpolated, last_segment}
 use Rattle.rhai_productions.specs.WorkedFunctions.{no_parameters}
 use Rattle.rhai_productions.specs.WorkedOpenForms.{open_operand, open_part, open_whole}
-use Rattle.rhai_productions.specs.WorkedOpenStatements.{no_room, open_declares, open_evaluates, open_first}
-use Rattle.rhai_productions.specs.WorkedOpenStatements.{open_followed, open_jump, open_next, open_return, open_single}
-use Rattle.rhai_productions.specs.WorkedOpenStatements.{refused_function}
-use Rattle.rhai_productions.specs.WorkedRows.{Fits, IsTrue, Misses, formula, script}
+use Rattle.rhai_productions.specs.WorkedOpenStatements.{no_room, open_declares, open_doing, open_evaluates, open_first}
+use Rattle.rhai_productions.specs.WorkedOpenStatements.{open_followed, open_jump, open_next, open_pipe, open_return}
+use Rattle.rhai_productions.specs.WorkedOpenStatements.{open_single, refused_function}
+use Rattle.rhai_productions.specs.WorkedRows.{Fits, Holds, Misses, formula, script}
 use Rattle.rhai_productions.specs.WorkedStatements.{closed, many, no_more_inside, one, single}
 use Rattle.rhai_productions.specs.WorkedTokens.{closing_brace, end_mark}
 
@@ -115,13 +114,8 @@ inner_rest = (Name (codes "y"), 6) ∷ (Sign token.Pipe, 7) ∷ (Name (codes "y"
 -- up to the inner closure, for which there is no room
 abbrev pub inner_form : Unwritten (formula (at_entry 17 179 64 1))
 inner_form =
-    open_whole (open_operand (Sign token.Pipe) 1 (choose (Sign token.Pipe) (place 1 1) (open_part (choose
-    (Sign token.Pipe) (place 1 1) (this (Sign token.Pipe) (place 1 1) (open_part (knows (part _ (form (choose
-    (Name (codes "x")) (place 1 2) (this (Name (codes "x")) (place 1 2) (must (choose (Sign token.Pipe) (place 1 3)
-    (this (Sign token.Pipe) (place 1 3) given)))))) (must (apart_here (open_form (if_not (part_here (open_evaluates
-    (Sign token.Pipe) 5 tt (open_single (open_operand (Sign token.Pipe) 5 (choose (Sign token.Pipe) (place 1 5)
-    (open_part (choose (Sign token.Pipe) (place 1 5) (this (Sign token.Pipe) (place 1 5)
-    (part_here no_room)))))))))))))))))))))
+    open_whole (open_operand (Sign token.Pipe) 1 (open_pipe 1 tt (open_doing (codes "x") 2 3 (open_evaluates
+    (Sign token.Pipe) 5 tt (open_single (open_operand (Sign token.Pipe) 5 (open_pipe 5 tt no_room)))))))
 
 -- `return |x| x`
 abbrev pub returned_begun : List (Lexeme × ℕ)
@@ -132,9 +126,7 @@ returned_rest = (Name (codes "x"), 9) ∷ (Sign token.Pipe, 10) ∷ (Name (codes
 
 -- up to the closure for which there is no room
 abbrev pub returned_form : Unwritten (script (at_entry 1 191 64 0))
-returned_form =
-    open_first (open_return 1 (open_jump (open_operand (Sign token.Pipe) 8 (choose (Sign token.Pipe) (place 1 8)
-    (open_part (choose (Sign token.Pipe) (place 1 8) (this (Sign token.Pipe) (place 1 8) (part_here no_room)))))))) tt
+returned_form = open_first (open_return 1 (open_jump (open_operand (Sign token.Pipe) 8 (open_pipe 8 tt no_room)))) tt
 
 pub record ClosuresEnter : Type 0 where
   pub member : EntersExpression (closure.member_form (entry_expression 64) tt) closure.member_tokens 10
@@ -155,12 +147,12 @@ pub record LoopEnters : Type 0 where
 -- ---- `a${b}c` as an interpolated string, and with a name in the place of the last text
 
 -- In an expression the block is one expression, too.
-abbrev pub string_form : (c : Context) → IsTrue (has_single_blocks c) → Written (formula c)
+abbrev pub string_form : (c : Context) → Holds (has_single_blocks c) → Written (formula c)
 string_form c so =
     whole (alone (interpolated (codes "a") 1 (last_segment 3 (one so (single (name_alone (codes "b") 4
     (closing_brace 5)))) 5 (codes "c") 7)) (end_mark 8))
 
-abbrev pub string_begun_form : (c : Context) → IsTrue (has_single_blocks c) → Unwritten (formula c)
+abbrev pub string_begun_form : (c : Context) → Holds (has_single_blocks c) → Unwritten (formula c)
 string_begun_form c so =
     open_whole (open_operand (Interpolated (codes "a")) 1 (choose (Interpolated (codes "a")) (place 1 1) (open_part
     (choose (Interpolated (codes "a")) (place 1 1) (this (Interpolated (codes "a")) (place 1 1) (must (open_part (part

@@ -4,8 +4,8 @@ use Rattle.rhai_lower.specs.Lexemes.{Comment, Lexeme, Name, Sign}
 use Rattle.rhai_lower.specs.Nodes as node
 use Rattle.rhai_lower.specs.Positions.{place}
 use Rattle.rhai_lower.specs.declared.token.Token.TheVariants as token
-use Rattle.rhai_grammar.specs.Causes.{refusal}
 use Rattle.rhai_grammar.specs.Causes as cause
+use Rattle.rhai_grammar.specs.Causes.{refusal}
 use Rattle.rhai_grammar.specs.Contexts.{Context}
 use Rattle.rhai_grammar.specs.Delivered.{code}
 use Rattle.rhai_grammar.specs.Libraries.{Ended}
@@ -14,8 +14,7 @@ use Rattle.rhai_grammar.specs.Forms.{choose, form, given, if_not, must, must_her
 use Rattle.rhai_grammar.specs.Promises.{Unwritten, Written, tree_of}
 use Rattle.rhai_productions.specs.RowsOfStatements.{variable}
 use Rattle.rhai_productions.specs.WorkedForms.{name_alone}
-use Rattle.rhai_productions.specs.WorkedFunctions.{declares, documented, function, headed, no_parameters}
-use Rattle.rhai_productions.specs.WorkedFunctions.{one_parameter}
+use Rattle.rhai_productions.specs.WorkedFunctions.{declares, documented, function, headed, no_parameters, one_parameter}
 use Rattle.rhai_productions.specs.WorkedOpenForms.{too_deep}
 use Rattle.rhai_productions.specs.WorkedOpenStatements.{open_block_at, open_declares, open_evaluates, open_first}
 use Rattle.rhai_productions.specs.WorkedOpenStatements.{open_function, open_many, open_single, refused_function}

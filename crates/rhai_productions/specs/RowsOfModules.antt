@@ -12,8 +12,8 @@ use Rattle.rhai_grammar.specs.Promises.{Written, tree_of}
 use Rattle.rhai_productions.specs.WorkedForms.{alone, quoted}
 use Rattle.rhai_productions.specs.WorkedLists.{path_called}
 use Rattle.rhai_productions.specs.WorkedRows.{Fits, script}
-use Rattle.rhai_productions.specs.WorkedStatements.{bare, evaluates, exports, first_of, imports, last_before}
-use Rattle.rhai_productions.specs.WorkedStatements.{lets, semicolon_then, written_as}
+use Rattle.rhai_productions.specs.WorkedStatements.{bare, evaluates, exports, first_of, imports, last_before, lets}
+use Rattle.rhai_productions.specs.WorkedStatements.{semicolon_then, written_as}
 use Rattle.rhai_productions.specs.WorkedTokens.{as_word, end_mark, semicolon}
 
 -- ---- two imports of one name

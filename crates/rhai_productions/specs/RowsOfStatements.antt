@@ -1,30 +1,29 @@
 -- Worked rows of statements: lines, their written forms and trees, and what is refused.
 use Rattle.std.specs.Prelude.{Bool, List, None, Option, Some, ℕ, [], codes, false, not, pos, true, ◌++◌, ◌∷◌, ◌≡◌}
 use Rattle.rhai_lower.specs.Lexemes.{Integer, Lexeme, Name, Sign}
-use Rattle.rhai_lower.specs.Nodes.{Node}
 use Rattle.rhai_lower.specs.Nodes as node
+use Rattle.rhai_lower.specs.Nodes.{Node}
 use Rattle.rhai_lower.specs.Positions.{place}
 use Rattle.rhai_lower.specs.Slots.{fresh_slot}
 use Rattle.rhai_lower.specs.Texts.{Text}
-use Rattle.rhai_lower.specs.declared.token.Token.{Token}
 use Rattle.rhai_lower.specs.declared.token.Token.TheVariants as token
-use Rattle.rhai_grammar.specs.Causes.{Refusal, refusal}
 use Rattle.rhai_grammar.specs.Causes as cause
+use Rattle.rhai_grammar.specs.Causes.{Refusal, refusal}
 use Rattle.rhai_grammar.specs.Contexts.{Context, has_single_blocks}
 use Rattle.rhai_grammar.specs.Delivered.{code}
 use Rattle.rhai_grammar.specs.RowStreams.{between, depth, unread}
+use Rattle.rhai_grammar.specs.Statements.{keyword_of}
 use Rattle.rhai_grammar.specs.Trees.{variable_of}
-use Rattle.rhai_grammar.specs.Forms.{choose, form, given, if_not, must, never_here, open_form, part, take_here}
-use Rattle.rhai_grammar.specs.Forms.{this}
+use Rattle.rhai_grammar.specs.Forms.{choose, never_here, open_form, part, take_here}
 use Rattle.rhai_grammar.specs.Promises.{Unwritten, Written, tree_of}
-use Rattle.rhai_productions.specs.WorkedForms.{alone, ends, name_alone, number, run, unlinked, whole}
+use Rattle.rhai_productions.specs.WorkedForms.{alone, name_alone, number, whole}
 use Rattle.rhai_productions.specs.WorkedOpenForms.{open_part, too_deep}
 use Rattle.rhai_productions.specs.WorkedOpenStatements.{deep_let, open_block_at, open_evaluates, open_first, open_let}
 use Rattle.rhai_productions.specs.WorkedOpenStatements.{open_many, open_next, open_semicolon, refused_assignment}
-use Rattle.rhai_productions.specs.WorkedRows.{Fits, IsTrue, Misses, formula, script}
-use Rattle.rhai_productions.specs.WorkedStatements.{block_at, closed, constant, evaluates, first_of, followed_by}
-use Rattle.rhai_productions.specs.WorkedStatements.{last_inside, lets, many, no_more, one, semicolon_then, single}
-use Rattle.rhai_productions.specs.WorkedStatements.{valued, written_as}
+use Rattle.rhai_productions.specs.WorkedRows.{Fits, Holds, Misses, formula, script}
+use Rattle.rhai_productions.specs.WorkedStatements.{block_at, block_operand, closed, constant, evaluates, first_of}
+use Rattle.rhai_productions.specs.WorkedStatements.{followed_by, last_inside, lets, many, no_more, one, semicolon_then}
+use Rattle.rhai_productions.specs.WorkedStatements.{single, valued, written_as}
 use Rattle.rhai_productions.specs.WorkedTokens.{closing_brace, end_mark, equals, semicolon}
 
 -- ---- nodes and tokens on the first line, each token at its column
@@ -39,11 +38,6 @@ variable slot name column = variable_of (Some slot) name (place 1 column)
 -- a definition that is not exported, with the number of the slot that it uses again
 abbrev pub definition : (constant : Bool) → (at : ℕ) → Text → Node → Option ℕ → node.Statement
 definition constant at name value slot = node.var_statement name value slot constant false (place 1 at)
-
--- the token of a definition
-abbrev keyword_of : (constant : Bool) → Token
-keyword_of true = token.Const
-keyword_of false = token.Let
 
 -- a name with its token for a definition, up to the `=`
 abbrev pub begins : (constant : Bool) → (at : ℕ) → Text → (name_at equals : ℕ) → List (Lexeme × ℕ)
@@ -66,7 +60,7 @@ scopes_tokens =
     ++ ((Name (codes "x"), 36) ∷ (Sign token.RightBrace, 38) ∷ [])
 
 -- under a context in which a block has statements
-abbrev pub scopes_form : (c : Context) → IsTrue (not (has_single_blocks c)) → Written (script c)
+abbrev pub scopes_form : (c : Context) → Holds (not (has_single_blocks c)) → Written (script c)
 scopes_form c so =
     written_as (
     first_of (lets 1 (valued (codes "x") 5 7 (alone (number 1 9) (semicolon 10)))) tt (semicolon_then 10 (
@@ -190,7 +184,7 @@ single_blocks = record (depth 64) { settings = record { flags = 16; options = 0;
 abbrev pub single_form : Unwritten (script single_blocks)
 single_form =
     open_first (open_block_at 1 (open_form (part _ (one tt (single (alone (number 1 3) (semicolon 4))))
-    (open_part (take_here))))) tt
+    (open_part take_here)))) tt
 
 abbrev pub block_values : Context
 block_values = record (depth 64) { settings = record { flags = 16; options = 8; level = 0; limit = 64 } }
@@ -198,10 +192,7 @@ block_values = record (depth 64) { settings = record { flags = 16; options = 8; 
 -- `{ 1 }` as an operand, where the options allow that and a block is one expression
 abbrev pub value_form : Written (formula block_values)
 value_form =
-    whole (run (form (choose (Sign token.LeftBrace) (place 1 1) (part _ (form (choose (Sign token.LeftBrace)
-    (place 1 1) (this (Sign token.LeftBrace) (place 1 1) (must (must (part _ (form (part _ (closed (one tt (single
-    (alone (number 1 3) (closing_brace 5)))) 5) given)) given)))))) (part _ (form (if_not (if_not given))) (part _
-    (unlinked (end_mark 6)) (must given)))))) (ends (end_mark 6)))
+    whole (alone (block_operand 1 tt (closed (one tt (single (alone (number 1 3) (closing_brace 5)))) 5)) (end_mark 6))
 
 abbrev pub value_tokens : List (Lexeme × ℕ)
 value_tokens = open_tokens ++ ((Sign token.RightBrace, 5) ∷ [])

@@ -1,12 +1,12 @@
 -- Worked rows of interpolated strings and jumps: lines, their written forms and trees, and what is refused.
 use Rattle.std.specs.Prelude.{List, None, ℕ, [], codes, false, not, pos, reverse, ◌++◌, ◌∷◌, ◌≡◌}
 use Rattle.rhai_lower.specs.Lexemes.{Faulty, Integer, Interpolated, Lexeme, Name, Sign, String, UnexpectedInput}
-use Rattle.rhai_lower.specs.Nodes.{Node, no_nodes, no_statements, one_node, one_statement}
 use Rattle.rhai_lower.specs.Nodes as node
+use Rattle.rhai_lower.specs.Nodes.{Node, no_nodes, no_statements, one_node, one_statement}
 use Rattle.rhai_lower.specs.Positions.{place}
 use Rattle.rhai_lower.specs.declared.token.Token.TheVariants as token
-use Rattle.rhai_grammar.specs.Causes.{Refusal, refusal}
 use Rattle.rhai_grammar.specs.Causes as cause
+use Rattle.rhai_grammar.specs.Causes.{Refusal, refusal}
 use Rattle.rhai_grammar.specs.Contexts.{Context, has_single_blocks}
 use Rattle.rhai_grammar.specs.Delivered.{Ends, Point, Then, Tokens, code, item, past, text}
 use Rattle.rhai_grammar.specs.RowStreams.{between, depth, taken_from, unread}
@@ -19,7 +19,7 @@ use Rattle.rhai_productions.specs.WorkedForms.{alone, joins_last, jump_right, na
 use Rattle.rhai_productions.specs.WorkedFunctions.{interpolated, last_segment}
 use Rattle.rhai_productions.specs.WorkedOpenForms.{open_operand, open_part, open_right, open_run, open_whole, too_deep}
 use Rattle.rhai_productions.specs.WorkedOpenStatements.{deep_jump, open_jump, open_next, open_return}
-use Rattle.rhai_productions.specs.WorkedRows.{Fits, IsTrue, Misses, formula, script}
+use Rattle.rhai_productions.specs.WorkedRows.{Fits, Holds, Misses, formula, script}
 use Rattle.rhai_productions.specs.WorkedStatements.{evaluates, first_of, last_inside, many, returns, with_value}
 use Rattle.rhai_productions.specs.WorkedStatements.{without_value}
 use Rattle.rhai_productions.specs.WorkedTokens.{closing_brace, coalesce, end_mark}
@@ -58,7 +58,7 @@ abbrev pub string_stream : Lexeme → Point
 string_stream l = record { tokens = before string_begun (in_text_alone l 7 8); taken = []; library = []; captured = [] }
 
 -- `a${b}c`, under a context in which a block has statements
-abbrev pub string_form : (c : Context) → IsTrue (not (has_single_blocks c)) → Written (formula c)
+abbrev pub string_form : (c : Context) → Holds (not (has_single_blocks c)) → Written (formula c)
 string_form c so =
     whole (alone (interpolated (codes "a") 1 (last_segment 3 (many so (
     first_of (evaluates (name_alone (codes "b") 4 (closing_brace 5)) tt) tt (last_inside 5))) 5 (codes "c") 7))

@@ -1,27 +1,26 @@
 -- Parts of written forms that worked rows have in common: operands and runs. Each token is on the first line, at its
 -- column. Where a test of tokens or settings has to hold, `tt` says so: it is evaluated.
-use Rattle.std.specs.Prelude.{ℕ, Bool, false, not, Option, Some, None, List, pos}
+use Rattle.std.specs.Prelude.{Bool, List, None, Option, Some, ℕ, false, not, pos}
 use Rattle.rhai_lower.specs.Nodes as node
 use Rattle.rhai_lower.specs.declared.token.Token.TheVariants as token
-use Rattle.rhai_grammar.specs.Prelude.{Context, Integer, Link, LinkSpot, Live, Lexeme, Name, Node, Position}
-use Rattle.rhai_grammar.specs.Prelude.{Sign, String, Text, below_global, block_value, chained, excludes_use}
-use Rattle.rhai_grammar.specs.Prelude.{in_block, level_up, made_block, name_tree, operand_start, operator_tree}
-use Rattle.rhai_grammar.specs.Prelude.{place, position_of, role_after, signed}
-use Rattle.rhai_grammar.specs.Prelude.{spot_after_operand, unit}
+use Rattle.rhai_grammar.specs.Prelude.{Context, Integer, Lexeme, Link, LinkSpot, Live, Name, Node, Position, Sign}
+use Rattle.rhai_grammar.specs.Prelude.{String, Text, below_global, block_value, chained, excludes_use, in_block}
+use Rattle.rhai_grammar.specs.Prelude.{level_up, made_block, name_tree, operand_start, operator_tree, place}
+use Rattle.rhai_grammar.specs.Prelude.{position_of, role_after, signed, spot_after_operand, unit}
 use Rattle.rhai_grammar.specs.declared.role.Beginning.TheVariants as begin
 use Rattle.rhai_grammar.specs.declared.role.OperandRole.{OperandRole}
 use Rattle.rhai_grammar.specs.declared.role.OperandRole.TheVariants.{AfterCoalesce, AfterRange, Elsewhere}
 use Rattle.rhai_grammar.specs.declared.role.OperandStart.{OperandStart}
 use Rattle.rhai_grammar.specs.declared.role.OperandStart.TheVariants as first
-use Rattle.rhai_grammar.specs.Goals.{Whole, Expression, Operand, RightOperand, Primary, Links, Statement}
-use Rattle.rhai_grammar.specs.Goals.{NextOperator, BinaryOp}
+use Rattle.rhai_grammar.specs.Goals.{BinaryOp, Expression, Links, NextOperator, Operand, Primary, RightOperand}
+use Rattle.rhai_grammar.specs.Goals.{Statement, Whole}
 use Rattle.rhai_grammar.specs.Strengths.{continues}
-use Rattle.rhai_grammar.specs.Forms.{Form, Filled, form, given, take, this, if_so, if_not, choose, here, must}
-use Rattle.rhai_grammar.specs.Forms.{uses, part}
+use Rattle.rhai_grammar.specs.Forms.{Filled, Form, choose, form, given, here, if_not, if_so, must, part, take}
+use Rattle.rhai_grammar.specs.Forms.{this, uses}
 use Rattle.rhai_grammar.specs.Promises.{Written}
 use Rattle.rhai_grammar.specs.Rules as P
 use Rattle.rhai_grammar.specs.Rules.{production}
-use Rattle.rhai_productions.specs.WorkedRows.{IsTrue, fails, holds}
+use Rattle.rhai_productions.specs.WorkedRows.{Holds, fails, holds}
 use Rattle.rhai_productions.specs.WorkedTokens.{After}
 
 -- ---- operands
@@ -103,7 +102,8 @@ ends t = form (part None (form (choose t.token (place 1 t.column) t.operator)) g
 
 -- an operator follows that binds too weakly to go on with this run
 abbrev pub leaves : {c : Context} {w : Live} {at : Position} {parent : ℕ} {x : Node} {op : ℕ × Bool}
-    (t : After c.filter (Some op)) → IsTrue (not (continues parent op.0 op.1)) → Form production (BinaryOp c w at parent x) x
+    (t : After c.filter (Some op)) → Holds (not (continues parent op.0 op.1))
+    → Form production (BinaryOp c w at parent x) x
 leaves {parent = parent} {op = op} t so =
     form (part _ (form (choose t.token (place 1 t.column) t.operator)) (
     fails _ (continues parent op.0 op.1) so given))
@@ -123,7 +123,7 @@ next_of (form (part next f rest)) = (next, f)
 
 -- An operator goes on with a run: its right operand, what groups more tightly with that, and the rest of the run.
 abbrev pub joins : {c : Context} {w : Live} {at : Position} {parent : ℕ} {x y z r : Node} {op : ℕ × Bool}
-    (t : After c.filter (Some op)) → IsTrue (continues parent op.0 op.1)
+    (t : After c.filter (Some op)) → Holds (continues parent op.0 op.1)
     → Form production (RightOperand c w (role_after t.token)) y
     → Form production (BinaryOp (level_up c) w (position_of y) op.0 y) r
     → Form production (BinaryOp (level_up c) w (place 1 t.column) parent
@@ -136,7 +136,7 @@ joins {parent = parent} {op = op} t so y r z =
 
 -- the same where the run ends after the right operand
 abbrev pub joins_last : {c : Context} {w : Live} {at : Position} {parent : ℕ} {x y : Node} {op : ℕ × Bool}
-    (t : After c.filter (Some op)) → IsTrue (continues parent op.0 op.1)
+    (t : After c.filter (Some op)) → Holds (continues parent op.0 op.1)
     → Form production (RightOperand c w (role_after t.token)) y → After c.filter None
     → Form production (BinaryOp c w at parent x) (operator_tree t.token (place 1 t.column) x y)
 joins_last t so y u = joins t so y (ends u) (ends u)
@@ -204,8 +204,9 @@ abbrev pub run : {c : Context} {w : Live} {x y : Node} → Form production (Oper
 run f rest = form (here (front f).0 (front f).1 (must (part _ f (part _ rest given))))
 
 -- an operand alone, before a token
-abbrev pub alone : {c : Context} {w : Live} {x : Node} → (After c.filter None → Form production (Operand (level_up c) w) x)
-    → After c.filter None → Form production (Expression c w) x
+abbrev pub alone : {c : Context} {w : Live} {x : Node}
+    → (After c.filter None → Form production (Operand (level_up c) w) x) → After c.filter None
+    → Form production (Expression c w) x
 alone f t = run (f t) (ends t)
 
 -- a name alone, before a token

@@ -1,16 +1,17 @@
 -- Parts of written forms that worked rows have in common: constructs, functions and closures. Each token is on the
 -- first line, at its column. Where a test of tokens or settings has to hold, `tt` says so: it is evaluated.
-use Rattle.std.specs.Prelude.{ℕ, Bool, true, false, not, Option, Some, None, List, [], ◌∷◌, if◌then◌else◌}
+use Rattle.std.specs.Prelude.{Bool, List, None, Option, Some, ℕ, [], false, if◌then◌else◌, not, true, ◌∷◌}
 use Rattle.rhai_lower.specs.Lexemes as lexeme
 use Rattle.rhai_lower.specs.Nodes as node
 use Rattle.rhai_lower.specs.Nodes.{for_statement}
 use Rattle.rhai_lower.specs.declared.token.Token.TheVariants as token
 use Rattle.rhai_grammar.specs.Constructs.{may_stand}
-use Rattle.rhai_grammar.specs.Prelude.{Collected, Comment, Context, Ended, Link, Live, Name, Node, Nodes, Position, Sign, Text}
-use Rattle.rhai_grammar.specs.Prelude.{Use, added_text, arm_role, below_global, block_value, braces, chained, closure_node, ended_function, ends_arm}
-use Rattle.rhai_grammar.specs.Prelude.{has_single_blocks, in_block, in_case, in_closure, in_function, level_up, loop_body}
-use Rattle.rhai_grammar.specs.Prelude.{loop_live, made_block, may_be_closure, noop, nothing_collected, parameters_live}
-use Rattle.rhai_grammar.specs.Prelude.{place, spot_after_operand, switch_tree, with_arm_collected, with_node}
+use Rattle.rhai_grammar.specs.Prelude.{Collected, Comment, Context, Ended, Link, Live, Name, Node, Nodes, Position}
+use Rattle.rhai_grammar.specs.Prelude.{Sign, Text, Use, added_text, arm_role, below_global, block_value, braces}
+use Rattle.rhai_grammar.specs.Prelude.{chained, closure_node, ended_function, ends_arm, has_single_blocks, in_block}
+use Rattle.rhai_grammar.specs.Prelude.{in_case, in_closure, in_function, level_up, loop_body, loop_live, made_block}
+use Rattle.rhai_grammar.specs.Prelude.{may_be_closure, noop, nothing_collected, parameters_live, place}
+use Rattle.rhai_grammar.specs.Prelude.{spot_after_operand, switch_tree, with_arm_collected, with_node}
 use Rattle.rhai_grammar.specs.Switches.{no_guard}
 use Rattle.rhai_grammar.specs.declared.role.ArmRole.{ArmRole}
 use Rattle.rhai_grammar.specs.declared.role.ArmRole.TheVariants as arm
@@ -20,20 +21,20 @@ use Rattle.rhai_grammar.specs.declared.role.Construct.{Construct}
 use Rattle.rhai_grammar.specs.declared.role.Construct.TheVariants as kind
 use Rattle.rhai_grammar.specs.declared.role.StatementStart.TheVariants as first
 use Rattle.rhai_grammar.specs.Goals as goal
-use Rattle.rhai_grammar.specs.Goals.{Goal, Val, Expression, Operand, Links, Statement, Inside, Block}
-use Rattle.rhai_grammar.specs.Productions.{Production}
-use Rattle.rhai_grammar.specs.Forms.{Form, Filled, form, given, take, this, if_so, if_not, choose, here, must}
-use Rattle.rhai_grammar.specs.Forms.{adds, apart, captures, in_text, knows, literal, part}
+use Rattle.rhai_grammar.specs.Goals.{Block, Expression, Goal, Inside, Links, Operand, Statement, Val}
+use Rattle.rhai_grammar.specs.Forms.{Filled, Form, adds, apart, captures, choose, form, given, here, if_not}
+use Rattle.rhai_grammar.specs.Forms.{if_so, in_text, knows, literal, must, part, take, this}
 use Rattle.rhai_grammar.specs.Rules as P
 use Rattle.rhai_grammar.specs.Rules.{production}
+use Rattle.rhai_grammar.specs.Productions.{Production}
 use Rattle.rhai_productions.specs.WorkedForms.{ends, linked, run, start, unlinked}
-use Rattle.rhai_productions.specs.WorkedRows.{IsTrue, holds}
+use Rattle.rhai_productions.specs.WorkedRows.{Holds, holds}
 use Rattle.rhai_productions.specs.WorkedTokens.{After}
 
 -- ---- loops
 
 -- where a construct is allowed as a statement
-abbrev construct_there : {c : Context} {w : Live} {x : node.Statement × Live} (k : Construct) (b : Bool) → IsTrue b
+abbrev construct_there : {c : Context} {w : Live} {x : node.Statement × Live} (k : Construct) (b : Bool) → Holds b
     → Filled production (Statement c w) (P.statement_by c w (first.Construct k)) x
     → Filled production (Statement c w) (P.statement_by c w (if b then first.Construct k else first.Expression)) x
 construct_there k true so f = f
@@ -49,7 +50,7 @@ two_names opening name column comma counter at closing in_at =
 
 -- a `for` loop, where loops are allowed
 abbrev pub for_each : {c : Context} {w : Live} {names : Text × Option Text} {x : Node} {b : node.Block} (at : ℕ)
-    → IsTrue (may_stand c kind.For) → Form production goal.LoopNames names
+    → Holds (may_stand c kind.For) → Form production goal.LoopNames names
     → Form production (Expression (level_up (level_up c)) w) x
     → Form production (goal.Braced (loop_body (level_up (level_up c))) (loop_live names.0 names.1 w) (place 1 at)) b
     → Form production (Statement c w) (for_statement names.0 names.1 x b (place 1 at), w)
@@ -89,14 +90,14 @@ abbrev pub cased : {c : Context} {w : Live} {x : Node} → Form production (Expr
 cased f = form (part _ (form (literal _ f given)) (if_not given))
 
 -- where an arm does a statement
-abbrev action_as : {c : Context} {w : Live} {x : Node × Bool} (b : Bool) → IsTrue (not b)
+abbrev action_as : {c : Context} {w : Live} {x : Node × Bool} (b : Bool) → Holds (not b)
     → Filled production (goal.Action c w) (P.action_by c w false) x
     → Filled production (goal.Action c w) (P.action_by c w b) x
 action_as false so f = f
 action_as true so f = absurd so
 
 -- the statement that an arm does
-abbrev pub does : {c : Context} {w : Live} {f : node.Statement × Live} → IsTrue (not (has_single_blocks c))
+abbrev pub does : {c : Context} {w : Live} {f : node.Statement × Live} → Holds (not (has_single_blocks c))
     → Form production (Statement (below_global c) (in_block w)) f
     → Form production (goal.Action c w) (block_value (made_block f.0), ends_arm f.0)
 does {c} so f = form (action_as (has_single_blocks c) so (if_not (part _ f given)))
@@ -176,7 +177,8 @@ documented text column at f =
 
 -- an interpolated string up to its last text
 abbrev pub interpolated : {c : Context} {w : Live} {o : Option (ℕ × Bool)} {ns : Nodes} (text : Text) (column : ℕ)
-    → Form production (goal.Segments (level_up c) w (place 1 column) (added_text node.no_nodes text (place 1 column))) ns
+    → Form production (goal.Segments (level_up c) w (place 1 column)
+    (added_text node.no_nodes text (place 1 column))) ns
     → After c.filter o → Form production (Operand c w) (node.interpolated ns (place 1 column))
 interpolated text column segments t =
     form (choose (lexeme.Interpolated text) (place 1 column) (linked (form (
@@ -218,7 +220,7 @@ doing_nothing end = form (if_so (here (Sign token.EOF) (place 1 end) given))
 
 -- a closure without parameters, where closures are operands, and its links
 abbrev pub bars_then : {c : Context} {w : Live} {f : node.Statement} {ls : List Link} (at : ℕ)
-    → IsTrue (may_be_closure c bars.Pair) → (us : List Use) (n : ℕ)
+    → Holds (may_be_closure c bars.Pair) → (us : List Use) (n : ℕ)
     → Form production (goal.ClosureBody (level_up (in_closure c w)) (parameters_live [])) f
     → Form production (Links w (spot_after_operand c (closure_node (place 1 at) n us [] w))) ls
     → Form production (Operand c w) (chained (closure_node (place 1 at) n us [] w) ls)
@@ -229,7 +231,7 @@ bars_then {c} at so us n f links =
 
 -- the same with one parameter
 abbrev pub parameter_then : {c : Context} {w : Live} {f : node.Statement} {ls : List Link} (at : ℕ) (name : Text)
-    (column closing : ℕ) → IsTrue (may_be_closure c bars.List) → (us : List Use) (n : ℕ)
+    (column closing : ℕ) → Holds (may_be_closure c bars.List) → (us : List Use) (n : ℕ)
     → Form production (goal.ClosureBody (level_up (in_closure c w)) (parameters_live (name ∷ []))) f
     → Form production (Links w (spot_after_operand c (closure_node (place 1 at) n us (name ∷ []) w))) ls
     → Form production (Operand c w) (chained (closure_node (place 1 at) n us (name ∷ []) w) ls)
@@ -242,14 +244,14 @@ parameter_then {c} at name column closing so us n f links =
 
 -- a closure alone, without links, before a token
 abbrev pub bars_alone : {c : Context} {w : Live} {f : node.Statement} (at : ℕ)
-    → IsTrue (may_be_closure (level_up c) bars.Pair) → (us : List Use) (n : ℕ)
+    → Holds (may_be_closure (level_up c) bars.Pair) → (us : List Use) (n : ℕ)
     → Form production (goal.ClosureBody (level_up (in_closure (level_up c) w)) (parameters_live [])) f
     → After c.filter None → Form production (Expression c w) (closure_node (place 1 at) n us [] w)
 bars_alone at so us n f t = run (bars_then at so us n f (unlinked t)) (ends t)
 
 -- the same with one parameter
 abbrev pub parameter_alone : {c : Context} {w : Live} {f : node.Statement} (at : ℕ) (name : Text)
-    (column closing : ℕ) → IsTrue (may_be_closure (level_up c) bars.List) → (us : List Use) (n : ℕ)
+    (column closing : ℕ) → Holds (may_be_closure (level_up c) bars.List) → (us : List Use) (n : ℕ)
     → Form production (goal.ClosureBody (level_up (in_closure (level_up c) w)) (parameters_live (name ∷ []))) f
     → After c.filter None → Form production (Expression c w) (closure_node (place 1 at) n us (name ∷ []) w)
 parameter_alone at name column closing so us n f t =

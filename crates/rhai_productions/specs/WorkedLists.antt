@@ -1,20 +1,17 @@
 -- Parts of written forms that worked rows have in common: links, calls and arrays. Each token is on the first line, at
 -- its column. Where a test of tokens or settings has to hold, `tt` says so: it is evaluated.
-use Rattle.std.specs.Prelude.{ℕ, Bool, true, false, Option, List}
+use Rattle.std.specs.Prelude.{Bool, List, Option, ℕ, false, true}
 use Rattle.rhai_lower.specs.Nodes as node
 use Rattle.rhai_lower.specs.declared.token.Token.TheVariants as token
-use Rattle.rhai_grammar.specs.Prelude.{Context, Link, LinkSpot, Live, Name, Node, Nodes, Position}
-use Rattle.rhai_grammar.specs.Prelude.{Sign, Text, array, bracket_link, call_tree}
-use Rattle.rhai_grammar.specs.Prelude.{level_up, member_link, name_tree, node_count}
-use Rattle.rhai_grammar.specs.Prelude.{place, property, qualified, spot_after_bracket, spot_after_dot}
-use Rattle.rhai_grammar.specs.Prelude.{with_node}
 use Rattle.rhai_grammar.specs.Literals.{item_role}
+use Rattle.rhai_grammar.specs.Prelude.{Context, Link, LinkSpot, Live, Name, Node, Nodes, Position, Sign, Text, array}
+use Rattle.rhai_grammar.specs.Prelude.{bracket_link, call_tree, level_up, member_link, name_tree, node_count, place}
+use Rattle.rhai_grammar.specs.Prelude.{property, qualified, spot_after_bracket, spot_after_dot, with_node}
 use Rattle.rhai_grammar.specs.declared.role.ItemRole.{ItemRole}
 use Rattle.rhai_grammar.specs.declared.role.ItemRole.TheVariants as item
 use Rattle.rhai_grammar.specs.Goals as goal
-use Rattle.rhai_grammar.specs.Goals.{Expression, Operand, Links}
-use Rattle.rhai_grammar.specs.Forms.{Form, Filled, form, given, take, this, if_so, if_not, choose, must}
-use Rattle.rhai_grammar.specs.Forms.{part}
+use Rattle.rhai_grammar.specs.Goals.{Expression, Links, Operand}
+use Rattle.rhai_grammar.specs.Forms.{Filled, Form, choose, form, given, if_not, if_so, must, part, take, this}
 use Rattle.rhai_grammar.specs.Rules as P
 use Rattle.rhai_grammar.specs.Rules.{production}
 use Rattle.rhai_productions.specs.WorkedForms.{linked, name_before, start, unlinked}
@@ -69,7 +66,8 @@ abbrev pub called : {c : Context} {w : Live} {o : Option (ℕ × Bool)} {ns : No
 called name column opening items t =
     form (choose (Name name) (place 1 column) (part _ (name_before name column (Sign token.LeftParen) opening) (
     part _ (form (if_not (if_so (part _ (form (choose (Sign token.LeftParen) (place 1 opening) (
-    this (Sign token.LeftParen) (place 1 opening) (part _ (form (if_not (if_not (must (part _ items given))))) given)))) (
+    this (Sign token.LeftParen) (place 1 opening) (
+    part _ (form (if_not (if_not (must (part _ items given))))) given)))) (
     must given))))) (part _ (unlinked t) (must given)))))
 
 -- a name after `::` that is called with `()`

@@ -1,6 +1,6 @@
 -- Parts of open forms that worked rows have in common: the way to the demand that is missed. Each token is on the first
 -- line, at its column.
-use Rattle.std.specs.Prelude.{ℕ, Bool, true, false, Option, Some, if◌then◌else◌}
+use Rattle.std.specs.Prelude.{Bool, Option, Some, ℕ, false, if◌then◌else◌, true}
 use Rattle.rhai_lower.specs.Nodes as node
 use Rattle.rhai_lower.specs.declared.token.Token.TheVariants as token
 use Rattle.rhai_grammar.specs.Literals.{item_role}
@@ -9,17 +9,17 @@ use Rattle.rhai_grammar.specs.Prelude.{node_count, operator_tree, place, positio
 use Rattle.rhai_grammar.specs.declared.role.ItemRole.{ItemRole}
 use Rattle.rhai_grammar.specs.declared.role.ItemRole.TheVariants as item
 use Rattle.rhai_grammar.specs.Goals as goal
-use Rattle.rhai_grammar.specs.Goals.{Goal, Val, Whole, Expression, Operand, RightOperand, BinaryOp}
+use Rattle.rhai_grammar.specs.Goals.{BinaryOp, Expression, Goal, Operand, RightOperand, Val, Whole}
 use Rattle.rhai_grammar.specs.Strengths.{continues}
-use Rattle.rhai_grammar.specs.Productions as S
-use Rattle.rhai_grammar.specs.Productions.{Production}
-use Rattle.rhai_grammar.specs.Forms.{Form, Open, Stopped, form, open_form, this, if_so, if_not, choose, here, must}
-use Rattle.rhai_grammar.specs.Forms.{part, part_here, must_here}
+use Rattle.rhai_grammar.specs.Forms.{Form, Open, Stopped, choose, form, here, if_not, if_so, must, must_here}
+use Rattle.rhai_grammar.specs.Forms.{open_form, part, part_here, this}
 use Rattle.rhai_grammar.specs.Rules as P
 use Rattle.rhai_grammar.specs.Rules.{production}
+use Rattle.rhai_grammar.specs.Productions as S
+use Rattle.rhai_grammar.specs.Productions.{Production}
 use Rattle.rhai_productions.specs.WorkedForms.{front, name_before, next_of, start}
 use Rattle.rhai_productions.specs.WorkedLists.{IsItem}
-use Rattle.rhai_productions.specs.WorkedRows.{IsTrue}
+use Rattle.rhai_productions.specs.WorkedRows.{Holds}
 use Rattle.rhai_productions.specs.WorkedTokens.{After}
 
 -- a part that is open
@@ -51,14 +51,14 @@ open_run f rest = open_form (here (front f).0 (front f).1 (must (part _ f (part_
 -- ---- operators
 
 -- the first of two ways, where a test holds
-abbrev pub holds_open : {h : Goal} {p : Production (Val h)} (q : Production (Val h)) (b : Bool) → IsTrue b
+abbrev pub holds_open : {h : Goal} {p : Production (Val h)} (q : Production (Val h)) (b : Bool) → Holds b
     → Stopped production h p → Stopped production h (if b then p else q)
 holds_open q true e f = f
 holds_open q false e f = absurd e
 
 -- an operator that goes on with a run, and what follows it
 abbrev pub open_after : {c : Context} {w : Live} {at : Position} {parent : ℕ} {x : Node} {op : ℕ × Bool}
-    (t : After c.filter (Some op)) → IsTrue (continues parent op.0 op.1)
+    (t : After c.filter (Some op)) → Holds (continues parent op.0 op.1)
     → Stopped production (BinaryOp c w at parent x) (P.binary_on c w at parent x op)
     → Open production (BinaryOp c w at parent x)
 open_after {parent = parent} {op = op} t so rest =
@@ -67,13 +67,13 @@ open_after {parent = parent} {op = op} t so rest =
 
 -- an operator whose right operand is open
 abbrev pub open_right : {c : Context} {w : Live} {at : Position} {parent : ℕ} {x : Node} {op : ℕ × Bool}
-    (t : After c.filter (Some op)) → IsTrue (continues parent op.0 op.1)
+    (t : After c.filter (Some op)) → Holds (continues parent op.0 op.1)
     → Open production (RightOperand c w (role_after t.token)) → Open production (BinaryOp c w at parent x)
 open_right t so y = open_after t so (this t.token (place 1 t.column) (part_here y))
 
 -- an operator whose right operand, before this token, is too deep
 abbrev pub deep_right : {c : Context} {w : Live} {at : Position} {parent : ℕ} {x y : Node} {op : ℕ × Bool}
-    {next : Option (ℕ × Bool)} (t : After c.filter (Some op)) → IsTrue (continues parent op.0 op.1)
+    {next : Option (ℕ × Bool)} (t : After c.filter (Some op)) → Holds (continues parent op.0 op.1)
     → Form production (RightOperand c w (role_after t.token)) y → After c.filter next
     → Open production (BinaryOp c w at parent x)
 deep_right t so y u =
@@ -82,7 +82,7 @@ deep_right t so y u =
 
 -- an operator after whose right operand, before this token, what groups more tightly is open
 abbrev pub open_tighter : {c : Context} {w : Live} {at : Position} {parent : ℕ} {x y : Node} {op : ℕ × Bool}
-    {next : Option (ℕ × Bool)} (t : After c.filter (Some op)) → IsTrue (continues parent op.0 op.1)
+    {next : Option (ℕ × Bool)} (t : After c.filter (Some op)) → Holds (continues parent op.0 op.1)
     → Form production (RightOperand c w (role_after t.token)) y → After c.filter next
     → Open production (BinaryOp (level_up c) w (position_of y) op.0 y) → Open production (BinaryOp c w at parent x)
 open_tighter t so y u r =
@@ -91,7 +91,7 @@ open_tighter t so y u r =
 
 -- an operator with its right side, and the rest of the run, which is open
 abbrev pub open_rest : {c : Context} {w : Live} {at : Position} {parent : ℕ} {x y r : Node} {op : ℕ × Bool}
-    (t : After c.filter (Some op)) → IsTrue (continues parent op.0 op.1)
+    (t : After c.filter (Some op)) → Holds (continues parent op.0 op.1)
     → Form production (RightOperand c w (role_after t.token)) y
     → Form production (BinaryOp (level_up c) w (position_of y) op.0 y) r
     → Open production (BinaryOp (level_up c) w (place 1 t.column) parent

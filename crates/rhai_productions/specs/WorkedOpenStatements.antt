@@ -1,10 +1,10 @@
 -- Parts of open forms of statements that worked rows have in common: the way to the demand that is missed. Each token
 -- is on the first line, at its column.
-use Rattle.std.specs.Prelude.{ℕ, Bool, true, false, not, List, []}
+use Rattle.std.specs.Prelude.{Bool, List, ℕ, [], false, not, true, ◌∷◌}
 use Rattle.rhai_lower.specs.Nodes as node
 use Rattle.rhai_lower.specs.declared.token.Token.TheVariants as token
 use Rattle.rhai_grammar.specs.Prelude.{Comment, Context, Ended, Lexeme, Live, Name, Node, Position, Sign, Text}
-use Rattle.rhai_grammar.specs.Prelude.{below_global, ends_itself, has_single_blocks, in_block, in_function}
+use Rattle.rhai_grammar.specs.Prelude.{below_global, ends_itself, has_single_blocks, in_block, in_closure, in_function}
 use Rattle.rhai_grammar.specs.Prelude.{level_up, may_be_closure, nothing_collected, parameters_live, place}
 use Rattle.rhai_grammar.specs.Prelude.{statement_start, with_kept}
 use Rattle.rhai_grammar.specs.Statements.{statement_role}
@@ -17,14 +17,14 @@ use Rattle.rhai_grammar.specs.declared.role.StatementRole.TheVariants as stands
 use Rattle.rhai_grammar.specs.declared.role.StatementStart.{StatementStart}
 use Rattle.rhai_grammar.specs.declared.role.StatementStart.TheVariants as first
 use Rattle.rhai_grammar.specs.Goals as goal
-use Rattle.rhai_grammar.specs.Goals.{Expression, Operand, Statement, Statements, ExprStatement, Inside, Block}
-use Rattle.rhai_grammar.specs.Forms.{Form, Open, Stopped, form, open_form, take, this, if_so, if_not, choose, here}
-use Rattle.rhai_grammar.specs.Forms.{must, knows, given, part, part_here, must_here, knows_here}
+use Rattle.rhai_grammar.specs.Goals.{Block, ExprStatement, Expression, Inside, Operand, Statement, Statements}
+use Rattle.rhai_grammar.specs.Forms.{Form, Open, Stopped, apart_here, choose, form, given, here, if_not, if_so}
+use Rattle.rhai_grammar.specs.Forms.{knows, knows_here, must, must_here, open_form, part, part_here, take, this}
 use Rattle.rhai_grammar.specs.Rules as P
 use Rattle.rhai_grammar.specs.Rules.{production}
 use Rattle.rhai_productions.specs.WorkedForms.{begun}
 use Rattle.rhai_productions.specs.WorkedOpenForms.{holds_open, open_part}
-use Rattle.rhai_productions.specs.WorkedRows.{IsTrue}
+use Rattle.rhai_productions.specs.WorkedRows.{Holds}
 use Rattle.rhai_productions.specs.WorkedStatements.{IsExpression, IsStatement}
 
 -- ---- lists of statements
@@ -147,13 +147,13 @@ open_return at f =
 -- ---- blocks
 
 -- where a block has statements
-abbrev inside_as : {c : Context} {w : Live} (b : Bool) → IsTrue (not b)
+abbrev inside_as : {c : Context} {w : Live} (b : Bool) → Holds (not b)
     → Stopped production (Inside c w) (P.inside_by c w false) → Stopped production (Inside c w) (P.inside_by c w b)
 inside_as false so f = f
 inside_as true so f = absurd so
 
 -- a block whose statements are open
-abbrev pub open_many : {c : Context} {w : Live} {at : Position} → IsTrue (not (has_single_blocks c))
+abbrev pub open_many : {c : Context} {w : Live} {at : Position} → Holds (not (has_single_blocks c))
     → Open production (Statements Brace (below_global c) (in_block w) node.no_statements)
     → Open production (Block c w at)
 open_many {c} so f = open_form (open_part (inside_as (has_single_blocks c) so (part_here f)))
@@ -188,7 +188,8 @@ open_function name column names opening body =
 
 -- a function that is refused after its body
 abbrev pub refused_function : {c : Context} {w : Live} {comments : List Comment} {at first : Position}
-    {is_private : Bool} {x : Ended} → Form production (goal.Function (level_up (in_function c w)) comments at is_private) x
+    {is_private : Bool} {x : Ended}
+    → Form production (goal.Function (level_up (in_function c w)) comments at is_private) x
     → Open production (goal.FunctionStatement c w comments first at is_private)
 refused_function f = open_form (must (knows (must (part _ f knows_here))))
 
@@ -204,9 +205,26 @@ abbrev pub no_room : {c : Context} {w : Live} {at : Position} {by : Bars} → Op
 no_room = open_form knows_here
 
 -- a closure without parameters, where closures are operands, which is open
-abbrev pub open_bars : {c : Context} {w : Live} (at : ℕ) → IsTrue (may_be_closure c bars.Pair)
+abbrev pub open_bars : {c : Context} {w : Live} (at : ℕ) → Holds (may_be_closure c bars.Pair)
     → Open production (goal.Closure c w (place 1 at) bars.Pair)
     → Stopped production (Operand c w) (production (Operand c w))
 open_bars {c} at so f =
     choose (Sign token.Or) (place 1 at) (open_part (choose (Sign token.Or) (place 1 at) (
     holds_open _ (may_be_closure c bars.Pair) so (this (Sign token.Or) (place 1 at) (part_here f)))))
+
+-- the same with parameters
+abbrev pub open_pipe : {c : Context} {w : Live} (at : ℕ) → Holds (may_be_closure c bars.List)
+    → Open production (goal.Closure c w (place 1 at) bars.List)
+    → Stopped production (Operand c w) (production (Operand c w))
+open_pipe {c} at so f =
+    choose (Sign token.Pipe) (place 1 at) (open_part (choose (Sign token.Pipe) (place 1 at) (
+    holds_open _ (may_be_closure c bars.List) so (this (Sign token.Pipe) (place 1 at) (part_here f)))))
+
+-- a closure with one parameter, whose statement is open
+abbrev pub open_doing : {c : Context} {w : Live} {at : Position} (name : Text) (column closing : ℕ)
+    → Open production (Statement (level_up (in_closure c w)) (parameters_live (name ∷ [])))
+    → Open production (goal.Closure c w at bars.List)
+open_doing name column closing s =
+    open_form (knows (part _ (form (choose (Name name) (place 1 column) (this (Name name) (place 1 column) (must (
+    choose (Sign token.Pipe) (place 1 closing) (this (Sign token.Pipe) (place 1 closing) given)))))) (must (
+    apart_here (open_form (if_not (part_here s)))))))

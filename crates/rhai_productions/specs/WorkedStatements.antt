@@ -1,29 +1,31 @@
 -- Parts of written forms that worked rows have in common: statements, blocks and functions. Each token is on the first
 -- line, at its column. Where a test of tokens or settings has to hold, `tt` says so: it is evaluated.
-use Rattle.std.specs.Prelude.{ℕ, Bool, true, false, not, Some, if◌then◌else◌}
+use Rattle.std.specs.Prelude.{Bool, Option, Some, ℕ, false, if◌then◌else◌, not, true}
 use Rattle.rhai_lower.specs.Nodes as node
 use Rattle.rhai_lower.specs.declared.token.Token.TheVariants as token
 use Rattle.rhai_grammar.specs.Prelude.{Context, Live, Name, Node, Position, Sign, Text, absent, allows_looping}
-use Rattle.rhai_grammar.specs.Prelude.{below_global, block_statement, braces, defined_as, definition_tree, ends_itself}
-use Rattle.rhai_grammar.specs.Prelude.{expression, has_single_blocks, import_tree, imported, in_block}
-use Rattle.rhai_grammar.specs.Prelude.{level_up, nowhere}
-use Rattle.rhai_grammar.specs.Prelude.{place, present, return_statement, statement_start, unit, with_kept}
+use Rattle.rhai_grammar.specs.Prelude.{below_global, block_statement, block_value, braces, defined_as, definition_tree}
+use Rattle.rhai_grammar.specs.Prelude.{ends_itself, expression, has_single_blocks, import_tree, imported, in_block}
+use Rattle.rhai_grammar.specs.Prelude.{level_up, may_be_value, nowhere, place, present, return_statement}
+use Rattle.rhai_grammar.specs.Prelude.{statement_start, unit, with_kept}
 use Rattle.rhai_grammar.specs.Statements.{statement_role}
 use Rattle.rhai_grammar.specs.declared.role.Closing.{Closing}
 use Rattle.rhai_grammar.specs.declared.role.Closing.TheVariants.{Brace, EndMark}
+use Rattle.rhai_grammar.specs.declared.role.Construct.TheVariants as kind
 use Rattle.rhai_grammar.specs.declared.role.StatementRole.{StatementRole}
 use Rattle.rhai_grammar.specs.declared.role.StatementRole.TheVariants as stands
 use Rattle.rhai_grammar.specs.declared.role.StatementStart.{StatementStart}
 use Rattle.rhai_grammar.specs.declared.role.StatementStart.TheVariants as first
 use Rattle.rhai_grammar.specs.Goals as goal
-use Rattle.rhai_grammar.specs.Goals.{Expression, Statement, Statements, ExprStatement, Inside, Block, Script}
-use Rattle.rhai_grammar.specs.Forms.{Form, Filled, form, given, take, this, if_so, if_not, choose, here, must}
-use Rattle.rhai_grammar.specs.Forms.{part}
+use Rattle.rhai_grammar.specs.Goals.{Block, ExprStatement, Expression, Inside, Operand, Script, Statement, Statements}
+use Rattle.rhai_grammar.specs.Forms.{Filled, Form, choose, form, given, here, if_not, if_so, must, part, take}
+use Rattle.rhai_grammar.specs.Forms.{this}
 use Rattle.rhai_grammar.specs.Promises.{Written}
 use Rattle.rhai_grammar.specs.Rules as P
 use Rattle.rhai_grammar.specs.Rules.{production}
-use Rattle.rhai_productions.specs.WorkedForms.{begun, start}
-use Rattle.rhai_productions.specs.WorkedRows.{IsTrue}
+use Rattle.rhai_productions.specs.WorkedForms.{begun, linked, start, unlinked}
+use Rattle.rhai_productions.specs.WorkedRows.{Holds, holds}
+use Rattle.rhai_productions.specs.WorkedTokens.{After}
 
 -- ---- statements
 
@@ -177,25 +179,25 @@ written_as {x = x} f = (x, f)
 -- ---- blocks
 
 -- where a block has statements
-abbrev inside_as : {c : Context} {w : Live} {x : node.Statements} (b : Bool) → IsTrue (not b)
+abbrev inside_as : {c : Context} {w : Live} {x : node.Statements} (b : Bool) → Holds (not b)
     → Filled production (Inside c w) (P.inside_by c w false) x → Filled production (Inside c w) (P.inside_by c w b) x
 inside_as false so f = f
 inside_as true so f = absurd so
 
 -- where a block is one expression or assignment
-abbrev one_inside : {c : Context} {w : Live} {x : node.Statements} (b : Bool) → IsTrue b
+abbrev one_inside : {c : Context} {w : Live} {x : node.Statements} (b : Bool) → Holds b
     → Filled production (Inside c w) (P.inside_by c w true) x → Filled production (Inside c w) (P.inside_by c w b) x
 one_inside true so f = f
 one_inside false so f = absurd so
 
 -- the statements in a block
-abbrev pub many : {c : Context} {w : Live} {x : node.Statements × Live} → IsTrue (not (has_single_blocks c))
+abbrev pub many : {c : Context} {w : Live} {x : node.Statements × Live} → Holds (not (has_single_blocks c))
     → Form production (Statements Brace (below_global c) (in_block w) node.no_statements) x
     → Form production (Inside c w) x.0
 many {c} so f = form (inside_as (has_single_blocks c) so (part _ f given))
 
 -- one expression or assignment in a block
-abbrev pub one : {c : Context} {w : Live} {x : node.Statement} → IsTrue (has_single_blocks c)
+abbrev pub one : {c : Context} {w : Live} {x : node.Statement} → Holds (has_single_blocks c)
     → Form production (ExprStatement c w) x → Form production (Inside c w) (node.one_statement x node.no_statements)
 one {c} so f = form (one_inside (has_single_blocks c) so (part _ f given))
 
@@ -218,6 +220,15 @@ block_at at f =
     form (choose (Sign token.LeftBrace) (place 1 at) (this (Sign token.LeftBrace) (place 1 at) (must (must (
     part _ (form (part _ f given)) given)))))
 
+-- a block as an operand without links, where the options allow that
+abbrev pub block_operand : {c : Context} {w : Live} {o : Option (ℕ × Bool)} {x : node.Block} (at : ℕ)
+    → Holds (may_be_value c kind.Block) → Form production (Block (level_up (level_up c)) w (place 1 at)) x
+    → After c.filter o → Form production (Operand c w) (block_value x)
+block_operand {c} at so f t =
+    form (choose (Sign token.LeftBrace) (place 1 at) (linked (form (choose (Sign token.LeftBrace) (place 1 at) (
+    holds _ (may_be_value c kind.Block) so (this (Sign token.LeftBrace) (place 1 at) (must (must (
+    part _ (form (part _ f given)) given))))))) (unlinked t)))
+
 -- ---- jumps
 
 -- a value after a jump; and none
@@ -236,14 +247,14 @@ returns at f =
     form (choose (Sign token.Return) (place 1 at) (this (Sign token.Return) (place 1 at) (part _ f given)))
 
 -- where loops are allowed
-abbrev break_there : {c : Context} {w : Live} {x : node.Statement × Live} (b : Bool) → IsTrue b
+abbrev break_there : {c : Context} {w : Live} {x : node.Statement × Live} (b : Bool) → Holds b
     → Filled production (Statement c w) (P.statement_by c w first.Break) x
     → Filled production (Statement c w) (P.statement_by c w (if b then first.Break else first.Expression)) x
 break_there true so f = f
 break_there false so f = absurd so
 
 -- a `break`, where loops are allowed
-abbrev pub breaks : {c : Context} {w : Live} {x : node.Optional} (at : ℕ) → IsTrue (allows_looping c)
+abbrev pub breaks : {c : Context} {w : Live} {x : node.Optional} (at : ℕ) → Holds (allows_looping c)
     → Form production (goal.Jump c w (place 1 at)) x
     → Form production (Statement c w) (node.break_loop x true (place 1 at), w)
 breaks {c} at so f =

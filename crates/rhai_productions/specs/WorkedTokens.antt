@@ -1,5 +1,5 @@
 -- What comes after an operand in worked rows. Each token is on the first line, at its column.
-use Rattle.std.specs.Prelude.{ℕ, Bool, false, Option, Some, None}
+use Rattle.std.specs.Prelude.{Bool, None, Option, Some, ℕ, false}
 use Rattle.rhai_lower.specs.declared.token.Token.TheVariants as token
 use Rattle.rhai_grammar.specs.Prelude.{Lexeme, LinkSpot, Live, Sign, follower_of, linking}
 use Rattle.rhai_grammar.specs.declared.filter.ExprFilter.{ExprFilter}
@@ -9,8 +9,8 @@ use Rattle.rhai_grammar.specs.Forms.{Filled, given, must}
 use Rattle.rhai_grammar.specs.Rules as P
 use Rattle.rhai_grammar.specs.Rules.{production}
 
--- A token that comes after an operand and begins no link. A form names it there, and does not take it. Under a filter it
--- is an operator of this strength, with whether equal ones group to the right; or it is none.
+-- A token that comes after an operand and begins no link. A form names it there, and does not take it. Under a filter
+-- it is an operator of this strength, with whether equal ones group to the right; or it is none.
 pub record After (filter : ExprFilter) (strength : Option (ℕ × Bool)) : Type 0 where
   pub token : Lexeme
   pub column : ℕ
