@@ -6,13 +6,13 @@ use Rattle.rhai_lower.specs.Nodes.{Node}
 use Rattle.rhai_lower.specs.Positions.{place}
 use Rattle.rhai_lower.specs.Slots.{fresh_slot}
 use Rattle.rhai_lower.specs.Texts.{Text}
+use Rattle.rhai_lower.specs.declared.token.Token.{Token}
 use Rattle.rhai_lower.specs.declared.token.Token.TheVariants as token
 use Rattle.rhai_grammar.specs.Causes as cause
 use Rattle.rhai_grammar.specs.Causes.{Refusal, refusal}
 use Rattle.rhai_grammar.specs.Contexts.{Context, has_single_blocks}
 use Rattle.rhai_grammar.specs.Delivered.{code}
 use Rattle.rhai_grammar.specs.RowStreams.{between, depth, unread}
-use Rattle.rhai_grammar.specs.Statements.{keyword_of}
 use Rattle.rhai_grammar.specs.Trees.{variable_of}
 use Rattle.rhai_grammar.specs.Forms.{choose, never_here, open_form, part, take_here}
 use Rattle.rhai_grammar.specs.Promises.{Unwritten, Written, tree_of}
@@ -38,6 +38,11 @@ variable slot name column = variable_of (Some slot) name (place 1 column)
 -- a definition that is not exported, with the number of the slot that it uses again
 abbrev pub definition : (constant : Bool) → (at : ℕ) → Text → Node → Option ℕ → node.Statement
 definition constant at name value slot = node.var_statement name value slot constant false (place 1 at)
+
+-- the token of a definition
+abbrev keyword_of : (constant : Bool) → Token
+keyword_of true = token.Const
+keyword_of false = token.Let
 
 -- a name with its token for a definition, up to the `=`
 abbrev pub begins : (constant : Bool) → (at : ℕ) → Text → (name_at equals : ℕ) → List (Lexeme × ℕ)
