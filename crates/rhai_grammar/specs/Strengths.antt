@@ -1,5 +1,6 @@
 -- What may come after an operand, and how strongly operators bind.
-use Rattle.std.specs.Prelude.{◌≡◌, ℕ, Bool, true, false, ◌&&◌, Option, Some, None, nat_lt, not, if◌then◌else◌, refl, ◌||◌, ◌==◌}
+use Rattle.std.specs.Prelude.{◌≡◌, ℕ, Bool, true, false, ◌&&◌, Option, Some, None, nat_lt, not, if◌then◌else◌, refl}
+use Rattle.std.specs.Prelude.{◌||◌, ◌==◌}
 use Rattle.rhai_lower.specs.Texts.{Text}
 use Rattle.rhai_lower.specs.Names.{is_identifier}
 use Rattle.rhai_lower.specs.Tokens.{strength_of, binds_right}

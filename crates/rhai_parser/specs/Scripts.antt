@@ -72,7 +72,8 @@ abbrev pub ReadsScript : Context → Live → (before after : Library) → (star
     → Result (Vec Stmt Global × Vec (Rc ScriptFuncDef Global) Global) ParseError → (slots : List SlotValue)
     → (imports : List Text) → Type 0
 ReadsScript context live before after start left result slots imports =
-    ReadsWhole (Script context live) (λ f script. IsScript f.0 after script slots imports) before after start left result
+    ReadsWhole (Script context live) (λ f script. IsScript f.0 after script slots imports) before after start left
+    result
 
 -- A stream that is a script is what an optimizer makes of its statements, with the functions that there are after it.
 abbrev pub ReadsAst : Makes → Context → Live → (before after : Library) → (start left : Cursor) → Constants

@@ -7,7 +7,8 @@ use Rattle.rhai_grammar.specs.declared.due.DueToken.TheVariants as due_token
 use Rattle.rhai_reading.specs.Reading.{Prog, Ret, Fail, Peek, Take, TakeText, Know, Add, Note, Call}
 use Rattle.rhai_reading.specs.Reading.{CallLiteral, CallApart, match_token}
 use Rattle.rhai_grammar.specs.Views.{view}
-use Rattle.rhai_grammar.specs.Productions.{Production, give, never, take, this, choose, if_next, here, must, knows, adds}
+use Rattle.rhai_grammar.specs.Productions.{Production, give, never, take, this, choose, if_next, here, must, knows}
+use Rattle.rhai_grammar.specs.Productions.{adds}
 use Rattle.rhai_grammar.specs.Productions.{uses, captures, part, literal, apart, in_text, due}
 
 -- The reader of a production, as a reading program. It looks at each token once: `seen` is the next token, if it was
