@@ -1,5 +1,4 @@
--- The tokens of a form that follows from productions, and what happens in it in written order. No clause is one of a
--- production.
+-- The tokens of a form, and what happens in it in written order. No clause is one of a production.
 use Rattle.std.specs.Prelude.{Bool, List, [], ◌∷◌, ◌++◌, map, if◌then◌else◌, ◌≡◌, ◌||◌, not}
 use Rattle.rhai_lower.specs.Lexemes.{Lexeme, Sign}
 use Rattle.rhai_lower.specs.declared.position.Position.{Position}

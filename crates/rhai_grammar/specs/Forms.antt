@@ -1,4 +1,4 @@
--- Written forms that follow from productions, and what they demand of a stream.
+-- Written forms: productions that are filled in, and what they demand of a stream.
 use Rattle.std.specs.Prelude.{◌≡◌, ℕ, ◌+◌, max, Bool, true, false, List, [], if◌then◌else◌}
 use Rattle.rhai_lower.specs.Positions.{nowhere}
 use Rattle.rhai_lower.specs.Lexemes.{Lexeme, Sign}

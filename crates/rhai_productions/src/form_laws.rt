@@ -1,4 +1,4 @@
-//! Laws of the forms that follow from productions, as contracts of functions that do nothing.
+//! Laws of forms, as contracts of functions that do nothing.
 
 ghost use Rattle.rhai_productions.specs.ChainForms.{ChainsAreJoined};
 ghost use Rattle.rhai_productions.specs.ClosureLaws.{CapturedAreUsed, ParametersAreCaptured};
