@@ -38,6 +38,7 @@ use Rattle.rhai_base.specs.declared.settings.ParseSettings.{ParseSettings}
 use Rattle.rhai_parser.specs.Bounds.{UpTo}
 use Rattle.rhai_parser.specs.Engines.{EngineValue}
 use Rattle.rhai_parser.specs.Frames.{context_of, live_of}
+use Rattle.rhai_parser.specs.Heights.{Stays}
 use Rattle.rhai_parser.specs.declared.shared.Shared.{Shared}
 
 -- ---- what is read, by the engine, the frame and the settings that it is read under
@@ -293,6 +294,17 @@ Reads g view old result new = Gives view (result_of g (state_of old)) result (st
 -- The same of a reader that counts: it is entered and left.
 abbrev pub Nests : {X : Type 0} (g : Goal) → (X → Val g) → Shared → Result X ParseError → Shared → Type 0
 Nests g view old result new = Gives view (nested (result_of g) (state_of old)) result (state_of new)
+
+-- What each reader promises, under this engine, frame and settings: the references stay and nothing read or ended is
+-- lost; nesting and library stay within bounds, where so many readers may stand on its own level; and the answer is what
+-- this goal gives under the same.
+pub record ReadsAs (engine : EngineValue) (frame : FrameValue) (settings : ParseSettings) (height : ℕ)
+    (goal : EngineValue → FrameValue → ParseSettings → Goal) {X : Type 0}
+    (view : X → Val (goal engine frame settings)) (old : Shared) (result : Result X ParseError) (new : Shared)
+    : Type 0 where
+  pub goes_on : GoesOn old new
+  pub stays : Stays engine frame settings height old new
+  pub reads : Reads (goal engine frame settings) view old result new
 
 -- Calls of each need below that of this goal may be made.
 abbrev pub Covers : (ℕ → Type 0) → Goal → Shared → Type 0

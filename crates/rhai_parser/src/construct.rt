@@ -4,8 +4,8 @@ pub(crate) mod control;
 
 ghost use Rattle.rhai_lower.specs.View.{block_view, statement_view, view};
 ghost use Rattle.rhai_grammar.specs.declared.role.Construct.TheVariants.{Do, For, Loop, Try, While};
-ghost use Rattle.rhai_parser.specs.Readers.{Covers, GoesOn, Reads, braced, branch, conditional, construct};
-ghost use Rattle.rhai_parser.specs.Readers.{guard, iterated};
+ghost use Rattle.rhai_parser.specs.Readers.{ReadsAs, Covers, GoesOn, Reads, braced, branch, conditional, construct};
+ghost use Rattle.rhai_parser.specs.Readers.{ReadsAs, guard, iterated};
 ghost use Rattle.rhai_parser.specs.Heights.{Stays};
 
 use crate::construct::control::{catch_frame, end_guard, end_iterated, loop_frame};
@@ -67,10 +67,7 @@ impl<R: LentReaders> Reader<'_, R> {
     ) -> ParseResult<Stmt>
         requires lent { Covers (R.lent self.now.readers) (conditional self.now.engine.now frame.now settings)
             shared.old }
-        ensures goes_on { GoesOn shared.old shared.new }
-        ensures stays { Stays self.now.engine.now frame.now settings 2 shared.old shared.new }
-        ensures reads { Reads (conditional self.now.engine.now frame.now settings) statement_view shared.old result
-            shared.new }
+        ensures { ReadsAs self.now.engine.now frame.now settings 2 conditional statement_view shared.old result shared.new }
     {
         let guard = nested!(shared, self.parse_guard(shared, frame, settings))?;
         let body = nested!(shared, self.parse_braces(shared, frame, settings))?;
@@ -90,10 +87,7 @@ impl<R: LentReaders> Reader<'_, R> {
     ) -> ParseResult<StmtBlock>
         requires lent { Covers (R.lent self.now.readers) (branch self.now.engine.now frame.now settings)
             shared.old }
-        ensures goes_on { GoesOn shared.old shared.new }
-        ensures stays { Stays self.now.engine.now frame.now settings 1 shared.old shared.new }
-        ensures reads { Reads (branch self.now.engine.now frame.now settings) block_view shared.old result
-            shared.new }
+        ensures { ReadsAs self.now.engine.now frame.now settings 1 branch block_view shared.old result shared.new }
     {
         if !pass_token(shared.input, DueToken::Else)? {
             return Ok(no_block(self.engine.alloc()));
@@ -118,9 +112,7 @@ impl<R: LentReaders> Reader<'_, R> {
     ) -> ParseResult<Expr>
         requires lent { Covers (R.lent self.now.readers) (guard self.now.engine.now frame.now settings)
             shared.old }
-        ensures goes_on { GoesOn shared.old shared.new }
-        ensures stays { Stays self.now.engine.now frame.now settings 1 shared.old shared.new }
-        ensures reads { Reads (guard self.now.engine.now frame.now settings) view shared.old result shared.new }
+        ensures { ReadsAs self.now.engine.now frame.now settings 1 guard view shared.old result shared.new }
     {
         guard_begins(self.engine.alloc(), shared.input)?;
         let guard = self
