@@ -37,11 +37,10 @@ impl<R: LentReaders> Reader<'_, R> {
         settings: ParseSettings,
         qualified: bool,
     ) -> ParseResult<Call>
-        requires lent { Covers (R.lent self.now.readers) (called self.now.engine.now frame.now settings
-            qualified) shared.old }
+        requires lent { Covers (R.lent self.now.readers) (called qualified self.now.engine.now frame.now settings) shared.old }
         ensures goes_on { GoesOn shared.old shared.new }
         ensures stays { Stays self.now.engine.now frame.now settings 1 shared.old shared.new }
-        ensures reads { Reads (called self.now.engine.now frame.now settings qualified) call_view shared.old result
+        ensures reads { Reads (called qualified self.now.engine.now frame.now settings) call_view shared.old result
             shared.new }
     {
         let (token, pos) = peek(shared.input)?;
@@ -86,11 +85,10 @@ impl<R: LentReaders> Reader<'_, R> {
         settings: ParseSettings,
         lhs: &Chain,
     ) -> ParseResult<Vec<Link>>
-        requires lent { Covers (R.lent self.now.readers) (links self.now.engine.now frame.now settings
-            (chain_view lhs.now)) shared.old }
+        requires lent { Covers (R.lent self.now.readers) (links (chain_view lhs.now) self.now.engine.now frame.now settings) shared.old }
         ensures goes_on { GoesOn shared.old shared.new }
         ensures stays { Stays self.now.engine.now frame.now settings 0 shared.old shared.new }
-        ensures reads { Reads (links self.now.engine.now frame.now settings (chain_view lhs.now)) linked shared.old
+        ensures reads { Reads (links (chain_view lhs.now) self.now.engine.now frame.now settings) linked shared.old
             result shared.new }
     {
         let (token, _) = peek(shared.input)?;
@@ -112,11 +110,10 @@ impl<R: LentReaders> Reader<'_, R> {
         settings: ParseSettings,
         lhs: &Chain,
     ) -> ParseResult<Vec<Link>>
-        requires lent { Covers (R.lent self.now.readers) (links self.now.engine.now frame.now settings
-            (chain_view lhs.now)) shared.old }
+        requires lent { Covers (R.lent self.now.readers) (links (chain_view lhs.now) self.now.engine.now frame.now settings) shared.old }
         ensures goes_on { GoesOn shared.old shared.new }
         ensures stays { Stays self.now.engine.now frame.now settings 0 shared.old shared.new }
-        ensures reads { Reads (links self.now.engine.now frame.now settings (chain_view lhs.now)) linked shared.old
+        ensures reads { Reads (links (chain_view lhs.now) self.now.engine.now frame.now settings) linked shared.old
             result shared.new }
     {
         let mut settings = settings;
@@ -173,12 +170,10 @@ impl<R: LentReaders> Reader<'_, R> {
         settings: ParseSettings,
         indexed: Option<&Chain>,
     ) -> ParseResult<Expr>
-        requires lent { Covers (R.lent self.now.readers) (index self.now.engine.now frame.now settings
-            (option_map (λ x. chain_view x.now) indexed)) shared.old }
+        requires lent { Covers (R.lent self.now.readers) (index (option_map (λ x. chain_view x.now) indexed) self.now.engine.now frame.now settings) shared.old }
         ensures goes_on { GoesOn shared.old shared.new }
         ensures stays { Stays self.now.engine.now frame.now settings 1 shared.old shared.new }
-        ensures reads { Reads (index self.now.engine.now frame.now settings
-            (option_map (λ x. chain_view x.now) indexed.entry)) view shared.old result shared.new }
+        ensures reads { Reads (index (option_map (λ x. chain_view x.now) indexed.entry) self.now.engine.now frame.now settings) view shared.old result shared.new }
     {
         let index = self
             .readers

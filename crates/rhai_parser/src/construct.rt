@@ -33,11 +33,11 @@ impl<R: LentReaders> Reader<'_, R> {
         settings: ParseSettings,
         kind: Construct,
     ) -> ParseResult<Stmt>
-        requires lent { Covers (R.lent self.now.readers) (construct self.now.engine.now frame.now settings kind)
+        requires lent { Covers (R.lent self.now.readers) (construct kind self.now.engine.now frame.now settings)
             shared.old }
         ensures goes_on { GoesOn shared.old shared.new }
         ensures stays { Stays self.now.engine.now frame.now settings 4 shared.old shared.new }
-        ensures reads { Reads (construct self.now.engine.now frame.now settings kind) statement_view shared.old
+        ensures reads { Reads (construct kind self.now.engine.now frame.now settings) statement_view shared.old
             result
             shared.new }
     {
@@ -171,11 +171,10 @@ impl<R: LentReaders> Reader<'_, R> {
         frame: &Frame<'_>,
         settings: ParseSettings,
     ) -> ParseResult<Stmt>
-        requires lent { Covers (R.lent self.now.readers) (construct self.now.engine.now frame.now settings
-            While) shared.old }
+        requires lent { Covers (R.lent self.now.readers) (construct While self.now.engine.now frame.now settings) shared.old }
         ensures goes_on { GoesOn shared.old shared.new }
         ensures stays { Stays self.now.engine.now frame.now settings 4 shared.old shared.new }
-        ensures reads { Reads (construct self.now.engine.now frame.now settings While) statement_view shared.old
+        ensures reads { Reads (construct While self.now.engine.now frame.now settings) statement_view shared.old
             result
             shared.new }
     {
@@ -195,11 +194,11 @@ impl<R: LentReaders> Reader<'_, R> {
         frame: &Frame<'_>,
         settings: ParseSettings,
     ) -> ParseResult<Stmt>
-        requires lent { Covers (R.lent self.now.readers) (construct self.now.engine.now frame.now settings Loop)
+        requires lent { Covers (R.lent self.now.readers) (construct Loop self.now.engine.now frame.now settings)
             shared.old }
         ensures goes_on { GoesOn shared.old shared.new }
         ensures stays { Stays self.now.engine.now frame.now settings 4 shared.old shared.new }
-        ensures reads { Reads (construct self.now.engine.now frame.now settings Loop) statement_view shared.old
+        ensures reads { Reads (construct Loop self.now.engine.now frame.now settings) statement_view shared.old
             result
             shared.new }
     {
@@ -223,11 +222,11 @@ impl<R: LentReaders> Reader<'_, R> {
         frame: &Frame<'_>,
         settings: ParseSettings,
     ) -> ParseResult<Stmt>
-        requires lent { Covers (R.lent self.now.readers) (construct self.now.engine.now frame.now settings Do)
+        requires lent { Covers (R.lent self.now.readers) (construct Do self.now.engine.now frame.now settings)
             shared.old }
         ensures goes_on { GoesOn shared.old shared.new }
         ensures stays { Stays self.now.engine.now frame.now settings 4 shared.old shared.new }
-        ensures reads { Reads (construct self.now.engine.now frame.now settings Do) statement_view shared.old result
+        ensures reads { Reads (construct Do self.now.engine.now frame.now settings) statement_view shared.old result
             shared.new }
     {
         let body = nested!(
@@ -247,11 +246,11 @@ impl<R: LentReaders> Reader<'_, R> {
         frame: &Frame<'_>,
         settings: ParseSettings,
     ) -> ParseResult<Stmt>
-        requires lent { Covers (R.lent self.now.readers) (construct self.now.engine.now frame.now settings For)
+        requires lent { Covers (R.lent self.now.readers) (construct For self.now.engine.now frame.now settings)
             shared.old }
         ensures goes_on { GoesOn shared.old shared.new }
         ensures stays { Stays self.now.engine.now frame.now settings 4 shared.old shared.new }
-        ensures reads { Reads (construct self.now.engine.now frame.now settings For) statement_view shared.old
+        ensures reads { Reads (construct For self.now.engine.now frame.now settings) statement_view shared.old
             result
             shared.new }
     {
@@ -281,11 +280,11 @@ impl<R: LentReaders> Reader<'_, R> {
         frame: &Frame<'_>,
         settings: ParseSettings,
     ) -> ParseResult<Stmt>
-        requires lent { Covers (R.lent self.now.readers) (construct self.now.engine.now frame.now settings Try)
+        requires lent { Covers (R.lent self.now.readers) (construct Try self.now.engine.now frame.now settings)
             shared.old }
         ensures goes_on { GoesOn shared.old shared.new }
         ensures stays { Stays self.now.engine.now frame.now settings 4 shared.old shared.new }
-        ensures reads { Reads (construct self.now.engine.now frame.now settings Try) statement_view shared.old
+        ensures reads { Reads (construct Try self.now.engine.now frame.now settings) statement_view shared.old
             result
             shared.new }
     {

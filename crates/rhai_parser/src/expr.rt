@@ -47,11 +47,10 @@ impl<R: LentReaders> Reader<'_, R> {
         settings: ParseSettings,
         operand: Chain,
     ) -> ParseResult<Chain>
-        requires lent { Covers (R.lent self.now.readers) (postfix self.now.engine.now frame.now settings
-            (chain_view operand)) shared.old }
+        requires lent { Covers (R.lent self.now.readers) (postfix (chain_view operand) self.now.engine.now frame.now settings) shared.old }
         ensures goes_on { GoesOn shared.old shared.new }
         ensures stays { Stays self.now.engine.now frame.now settings 2 shared.old shared.new }
-        ensures reads { Reads (postfix self.now.engine.now frame.now settings (chain_view operand)) chain_view
+        ensures reads { Reads (postfix (chain_view operand) self.now.engine.now frame.now settings) chain_view
             shared.old result shared.new }
     {
         if !excludes_use(shared.input)? {
@@ -72,11 +71,10 @@ impl<R: LentReaders> Reader<'_, R> {
         settings: ParseSettings,
         operand: Chain,
     ) -> ParseResult<Chain>
-        requires lent { Covers (R.lent self.now.readers) (postfix self.now.engine.now frame.now settings
-            (chain_view operand)) shared.old }
+        requires lent { Covers (R.lent self.now.readers) (postfix (chain_view operand) self.now.engine.now frame.now settings) shared.old }
         ensures goes_on { GoesOn shared.old shared.new }
         ensures stays { Stays self.now.engine.now frame.now settings 2 shared.old shared.new }
-        ensures reads { Reads (postfix self.now.engine.now frame.now settings (chain_view operand)) chain_view
+        ensures reads { Reads (postfix (chain_view operand) self.now.engine.now frame.now settings) chain_view
             shared.old result shared.new }
     {
         let alloc = self.engine.alloc();
@@ -138,11 +136,11 @@ impl<R: LentReaders> Reader<'_, R> {
         frame: &Frame<'_>,
         settings: ParseSettings,
     ) -> ParseResult<Vec<Expr>>
-        requires lent { Covers (R.lent self.now.readers) (items self.now.engine.now frame.now settings no_nodes)
+        requires lent { Covers (R.lent self.now.readers) (items no_nodes self.now.engine.now frame.now settings)
             shared.old }
         ensures goes_on { GoesOn shared.old shared.new }
         ensures stays { Stays self.now.engine.now frame.now settings 1 shared.old shared.new }
-        ensures reads { Reads (items self.now.engine.now frame.now settings no_nodes) views_of shared.old result
+        ensures reads { Reads (items no_nodes self.now.engine.now frame.now settings) views_of shared.old result
             shared.new }
     {
         let mut items = Vec::new(self.engine.alloc());
@@ -172,11 +170,10 @@ impl<R: LentReaders> Reader<'_, R> {
         settings: ParseSettings,
         place: OperandRole,
     ) -> ParseResult<Chain>
-        requires lent { Covers (R.lent self.now.readers) (right_operand self.now.engine.now frame.now settings
-            place) shared.old }
+        requires lent { Covers (R.lent self.now.readers) (right_operand place self.now.engine.now frame.now settings) shared.old }
         ensures goes_on { GoesOn shared.old shared.new }
         ensures stays { Stays self.now.engine.now frame.now settings 4 shared.old shared.new }
-        ensures reads { Reads (right_operand self.now.engine.now frame.now settings place) chain_view shared.old
+        ensures reads { Reads (right_operand place self.now.engine.now frame.now settings) chain_view shared.old
             result shared.new }
     {
         let alloc = self.engine.alloc();
@@ -294,7 +291,7 @@ impl<R: LentReaders> Reader<'_, R> {
         requires looked { state_of shared.now ≡ after_peek (state_of shared.now) }
         requires readable { is_memory (next_item (state_of shared.now)).lexeme ≡ false }
         requires ends { ends_operand (next_item (state_of shared.now)).lexeme ≡ true }
-        ensures reads { result_of (postfix self.now.engine.now frame.now settings (chain_view operand.now))
+        ensures reads { result_of (postfix (chain_view operand.now) self.now.engine.now frame.now settings)
             (state_of shared.now) ≡ Done (chain_view operand.now) (state_of shared.now) }
     {}
 
@@ -310,7 +307,7 @@ impl<R: LentReaders> Reader<'_, R> {
         requires looked { state_of shared.now ≡ after_peek (state_of shared.now) }
         requires readable { is_memory (next_item (state_of shared.now)).lexeme ≡ false }
         requires ends { ends_operand (next_item (state_of shared.now)).lexeme ≡ true }
-        ensures reads { result_of (links self.now.engine.now frame.now settings (chain_view operand.now))
+        ensures reads { result_of (links (chain_view operand.now) self.now.engine.now frame.now settings)
             (state_of shared.now) ≡ Done [] (state_of shared.now) }
     {}
 

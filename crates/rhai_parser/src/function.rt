@@ -157,13 +157,11 @@ impl<R: LentReaders> Reader<'_, R> {
         first: Position,
         private: bool,
     ) -> ParseResult<Stmt>
-        requires lent { Covers (R.lent self.now.readers) (function_statement self.now.engine.now frame.now settings
-            (comments_of comments.now) first private) shared.old }
+        requires lent { Covers (R.lent self.now.readers) (function_statement (comments_of comments.now) first private self.now.engine.now frame.now settings) shared.old }
         ensures goes_on { GoesOn shared.old shared.new }
         ensures stays { Stays self.now.engine.now frame.now settings
             (function_height self.now.engine.now settings) shared.old shared.new }
-        ensures reads { Reads (function_statement self.now.engine.now frame.now settings
-            (comments_of comments.now) first private) (with_live statement_view frame.now) shared.old result
+        ensures reads { Reads (function_statement (comments_of comments.now) first private self.now.engine.now frame.now settings) (with_live statement_view frame.now) shared.old result
             shared.new }
     {
         test_function(settings, first)?;
@@ -196,11 +194,10 @@ impl<R: LentReaders> Reader<'_, R> {
         private: bool,
     ) -> ParseResult<EndedFn>
         requires alone { frame.old.live ≡ nothing_live }
-        requires lent { Covers (R.lent self.now.readers) (function self.now.engine.now frame.old settings
-            (comments_of comments.now) private) shared.old }
+        requires lent { Covers (R.lent self.now.readers) (function (comments_of comments.now) private self.now.engine.now frame.old settings) shared.old }
         ensures goes_on { GoesOn shared.old shared.new }
         ensures stays { Stays self.now.engine.now frame.old settings 0 shared.old shared.new }
-        ensures reads { Reads (function self.now.engine.now frame.old settings (comments_of comments.now) private)
+        ensures reads { Reads (function (comments_of comments.now) private self.now.engine.now frame.old settings)
             ended_view shared.old result shared.new }
         ensures named { IfOk result (λ e. is_closure (key_of e.0) ≡ false) }
     {

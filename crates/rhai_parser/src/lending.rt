@@ -168,7 +168,7 @@ pub(crate) fn parse_statements(
     ensures stays { Stays engine.now frame.old settings
         (2 + function_height engine.now settings) shared.old shared.new }
     ensures place { SameSurroundings frame.old frame.new }
-    ensures reads { Reads (statements engine.now frame.old settings closing no_statements)
+    ensures reads { Reads (statements closing no_statements engine.now frame.old settings)
         (with_live statements_of frame.new) shared.old result shared.new }
 {
     let readers = Lent {

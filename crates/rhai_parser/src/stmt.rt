@@ -49,13 +49,12 @@ impl<R: LentReaders> Reader<'_, R> {
         settings: ParseSettings,
         closing: Closing,
     ) -> ParseResult<Vec<Stmt>>
-        requires lent { Covers (R.lent self.now.readers) (statements self.now.engine.now frame.old settings
-            closing no_statements) shared.old }
+        requires lent { Covers (R.lent self.now.readers) (statements closing no_statements self.now.engine.now frame.old settings) shared.old }
         ensures goes_on { GoesOn shared.old shared.new }
         ensures stays { Stays self.now.engine.now frame.old settings
             (2 + function_height self.now.engine.now settings) shared.old shared.new }
         ensures place { SameSurroundings frame.old frame.new }
-        ensures reads { Reads (statements self.now.engine.now frame.old settings closing no_statements)
+        ensures reads { Reads (statements closing no_statements self.now.engine.now frame.old settings)
             (with_live statements_of frame.new) shared.old result shared.new }
     {
         let mut statements = Vec::new(self.engine.alloc());
@@ -260,12 +259,11 @@ impl<R: LentReaders> Reader<'_, R> {
         constant: bool,
         exported: bool,
     ) -> ParseResult<Stmt>
-        requires lent { Covers (R.lent self.now.readers) (definition self.now.engine.now frame.old settings
-            constant exported) shared.old }
+        requires lent { Covers (R.lent self.now.readers) (definition constant exported self.now.engine.now frame.old settings) shared.old }
         ensures goes_on { GoesOn shared.old shared.new }
         ensures stays { Stays self.now.engine.now frame.old settings 1 shared.old shared.new }
         ensures place { SameSurroundings frame.old frame.new }
-        ensures reads { Reads (definition self.now.engine.now frame.old settings constant exported)
+        ensures reads { Reads (definition constant exported self.now.engine.now frame.old settings)
             (with_live statement_view frame.new) shared.old result shared.new }
     {
         let (name, _) = next_var_name(self.engine, shared, frame, settings)?;

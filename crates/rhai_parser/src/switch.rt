@@ -36,11 +36,10 @@ impl<R: LentReaders> Reader<'_, R> {
         frame: &Frame<'_>,
         settings: ParseSettings,
     ) -> ParseResult<Stmt>
-        requires lent { Covers (R.lent self.now.readers) (construct self.now.engine.now frame.now settings
-            Switch) shared.old }
+        requires lent { Covers (R.lent self.now.readers) (construct Switch self.now.engine.now frame.now settings) shared.old }
         ensures goes_on { GoesOn shared.old shared.new }
         ensures stays { Stays self.now.engine.now frame.now settings 4 shared.old shared.new }
-        ensures reads { Reads (construct self.now.engine.now frame.now settings Switch) statement_view shared.old
+        ensures reads { Reads (construct Switch self.now.engine.now frame.now settings) statement_view shared.old
             result
             shared.new }
     {
@@ -61,11 +60,10 @@ impl<R: LentReaders> Reader<'_, R> {
         frame: &Frame<'_>,
         settings: ParseSettings,
     ) -> ParseResult<Arms>
-        requires lent { Covers (R.lent self.now.readers) (arms self.now.engine.now frame.now settings
-            nothing_collected) shared.old }
+        requires lent { Covers (R.lent self.now.readers) (arms nothing_collected self.now.engine.now frame.now settings) shared.old }
         ensures goes_on { GoesOn shared.old shared.new }
         ensures stays { Stays self.now.engine.now frame.now settings 4 shared.old shared.new }
-        ensures reads { Reads (arms self.now.engine.now frame.now settings nothing_collected) arms_view
+        ensures reads { Reads (arms nothing_collected self.now.engine.now frame.now settings) arms_view
             shared.old result
             shared.new }
     {
@@ -109,11 +107,10 @@ impl<R: LentReaders> Reader<'_, R> {
         before: &Arms,
     ) -> ParseResult<Arm>
         requires in_cases { CaseFrame frame.now in_cases.now }
-        requires lent { Covers (R.lent self.now.readers) (arm self.now.engine.now frame.now settings
-            (arms_view before.now)) shared.old }
+        requires lent { Covers (R.lent self.now.readers) (arm (arms_view before.now) self.now.engine.now frame.now settings) shared.old }
         ensures goes_on { GoesOn shared.old shared.new }
         ensures stays { Stays self.now.engine.now frame.now settings 3 shared.old shared.new }
-        ensures reads { Reads (arm self.now.engine.now frame.now settings (arms_view before.now)) arm_view
+        ensures reads { Reads (arm (arms_view before.now) self.now.engine.now frame.now settings) arm_view
             shared.old result
             shared.new }
         ensures shrinks { OnOk result
@@ -140,11 +137,10 @@ impl<R: LentReaders> Reader<'_, R> {
         settings: ParseSettings,
         default: Position,
     ) -> ParseResult<Expr>
-        requires lent { Covers (R.lent self.now.readers) (default_arm self.now.engine.now frame.now settings
-            default) shared.old }
+        requires lent { Covers (R.lent self.now.readers) (default_arm default self.now.engine.now frame.now settings) shared.old }
         ensures goes_on { GoesOn shared.old shared.new }
         ensures stays { Stays self.now.engine.now frame.now settings 3 shared.old shared.new }
-        ensures reads { Reads (default_arm self.now.engine.now frame.now settings default) view shared.old result
+        ensures reads { Reads (default_arm default self.now.engine.now frame.now settings) view shared.old result
             shared.new }
     {
         default_unguarded(shared.input)?;
@@ -168,11 +164,11 @@ impl<R: LentReaders> Reader<'_, R> {
         settings: ParseSettings,
     ) -> ParseResult<SmallVec<Expr, 1>>
         requires in_cases { CaseFrame frame.now in_cases.now }
-        requires lent { Covers (R.lent self.now.readers) (cases self.now.engine.now frame.now settings no_nodes)
+        requires lent { Covers (R.lent self.now.readers) (cases no_nodes self.now.engine.now frame.now settings)
             shared.old }
         ensures goes_on { GoesOn shared.old shared.new }
         ensures stays { Stays self.now.engine.now frame.now settings 2 shared.old shared.new }
-        ensures reads { Reads (cases self.now.engine.now frame.now settings no_nodes) cases_view shared.old result
+        ensures reads { Reads (cases no_nodes self.now.engine.now frame.now settings) cases_view shared.old result
             shared.new }
     {
         let mut cases = SmallVec::new(self.engine.alloc());

@@ -36,11 +36,11 @@ impl<R: LentReaders> Reader<'_, R> {
         settings: ParseSettings,
         bars: Bars,
     ) -> ParseResult<Chain>
-        requires lent { Covers (R.lent self.now.readers) (closure self.now.engine.now frame.now settings bars)
+        requires lent { Covers (R.lent self.now.readers) (closure bars self.now.engine.now frame.now settings)
             shared.old }
         ensures goes_on { GoesOn shared.old shared.new }
         ensures stays { Stays self.now.engine.now frame.now settings 0 shared.old shared.new }
-        ensures reads { Reads (closure self.now.engine.now frame.now settings bars) chain_view shared.old result
+        ensures reads { Reads (closure bars self.now.engine.now frame.now settings) chain_view shared.old result
             shared.new }
     {
         let alloc = self.engine.alloc();

@@ -33,11 +33,10 @@ impl<R: LentReaders> Reader<'_, R> {
         frame: &Frame<'_>,
         settings: ParseSettings,
     ) -> ParseResult<Vec<Expr>>
-        requires lent { Covers (R.lent self.now.readers) (elements self.now.engine.now frame.now settings
-            no_nodes) shared.old }
+        requires lent { Covers (R.lent self.now.readers) (elements no_nodes self.now.engine.now frame.now settings) shared.old }
         ensures goes_on { GoesOn shared.old shared.new }
         ensures stays { Stays self.now.engine.now frame.now settings 0 shared.old shared.new }
-        ensures reads { Reads (elements self.now.engine.now frame.now settings no_nodes) views_of shared.old result
+        ensures reads { Reads (elements no_nodes self.now.engine.now frame.now settings) views_of shared.old result
             shared.new }
     {
         let limit = self.engine.max_array_size();
@@ -70,11 +69,10 @@ impl<R: LentReaders> Reader<'_, R> {
         frame: &Frame<'_>,
         settings: ParseSettings,
     ) -> ParseResult<Vec<(Ident, Expr)>>
-        requires lent { Covers (R.lent self.now.readers) (fields self.now.engine.now frame.now settings
-            no_properties) shared.old }
+        requires lent { Covers (R.lent self.now.readers) (fields no_properties self.now.engine.now frame.now settings) shared.old }
         ensures goes_on { GoesOn shared.old shared.new }
         ensures stays { Stays self.now.engine.now frame.now settings 0 shared.old shared.new }
-        ensures reads { Reads (fields self.now.engine.now frame.now settings no_properties) properties_of shared.old
+        ensures reads { Reads (fields no_properties self.now.engine.now frame.now settings) properties_of shared.old
             result
             shared.new }
     {
@@ -103,13 +101,11 @@ impl<R: LentReaders> Reader<'_, R> {
         settings: ParseSettings,
         first: RcStr,
     ) -> ParseResult<Vec<Expr>>
-        requires lent { Covers (R.lent self.now.readers) (segments self.now.engine.now frame.now settings
-            (added_text no_nodes (rc_str_bytes first) settings.pos)) shared.old }
+        requires lent { Covers (R.lent self.now.readers) (segments (added_text no_nodes (rc_str_bytes first) settings.pos) self.now.engine.now frame.now settings) shared.old }
         ensures goes_on { GoesOn shared.old shared.new }
         ensures stays { Stays self.now.engine.now frame.now settings 0 shared.old shared.new }
-        ensures reads { Reads (segments self.now.engine.now frame.now settings
-            (added_text no_nodes (rc_str_bytes first)
-            settings.pos)) views_of shared.old result shared.new }
+        ensures reads { Reads (segments (added_text no_nodes (rc_str_bytes first)
+            settings.pos) self.now.engine.now frame.now settings) views_of shared.old result shared.new }
     {
         let mut segments = Vec::new(self.engine.alloc());
         push_text(&mut segments, first, settings.pos)?;

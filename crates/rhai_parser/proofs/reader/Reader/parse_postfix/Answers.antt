@@ -15,6 +15,6 @@ returns-then-not-branch-clause-reads g c =
 
 pub returns-clause-reads : goal.returns-clause-reads
 returns-clause-reads g c =
-    let goal = postfix c.args.self.now.engine.now c.args.frame.now c.args.settings (chain_view c.args.operand) in
+    let goal = postfix (chain_view c.args.operand) c.args.self.now.engine.now c.args.frame.now c.args.settings in
     gives_so chain_view c.parse_called.result (state_of c.parse_called.new.shared)
     (sym (looked goal _ (state_of c.args.shared.now) refl) ∙ ap (result_of goal) (grind arith)) c.parse_called.ensures.reads
