@@ -1,8 +1,7 @@
 //! The reader of blocks, after their `{`.
 
 ghost use Rattle.rhai_lower.specs.View.{block_view};
-ghost use Rattle.rhai_parser.specs.Readers.{ReadsAs, Covers, GoesOn, Reads, block};
-ghost use Rattle.rhai_parser.specs.Heights.{Stays};
+ghost use Rattle.rhai_parser.specs.Readers.{Covers, ReadsAs, block};
 
 use crate::lent::LentReaders;
 use crate::reader::Reader;
