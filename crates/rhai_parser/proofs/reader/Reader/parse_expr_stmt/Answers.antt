@@ -7,6 +7,10 @@ use Rattle.rhai_parser.proofs.Given.{gives_so}
 use Rattle.rhai_parser.proofs.StmtReaders as rule
 
 pub returns-clause-reads : goal.returns-clause-reads
-returns-clause-reads g c =
-    let call = guarded (expr_statement c.args.self.now.engine.now c.args.frame.now c.args.settings) (state_of c.args.shared.now) in
-    gives_so statement_view c.end_assignment.result (state_of c.parse_expr-2.new.shared) (grind (arith, rule.parse_expr_stmt)) (c.end_assignment.ensures.gives call _)
+returns-clause-reads g c = record {
+  goes_on = grind arith;
+  stays = grind arith;
+  reads =
+      let call = guarded (expr_statement c.args.self.now.engine.now c.args.frame.now c.args.settings) (state_of c.args.shared.now) in
+      gives_so statement_view c.end_assignment.result (state_of c.parse_expr-2.new.shared) (grind (arith, rule.parse_expr_stmt)) (c.end_assignment.ensures.gives call _);
+}
