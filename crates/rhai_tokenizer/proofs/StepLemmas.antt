@@ -1,8 +1,8 @@
 -- One turn of the reading of a text, by what its code knows of the piece.
 use Rattle.std.proofs.Common.{◌≡◌, ℕ, ◌+◌, ◌-◌, ◌≤◌, Bool, true, false, ◌||◌, [], ◌∷◌, Option, None, cond, codes, drop, take, length, reverse, IsUtf8, refl, sym, ap, ◌∙◌, subst, arith, true≢false}
 use Rattle.std.proofs.Common.{◌&&◌, ◌==◌}
-use Rattle.std.proofs.lemmas.Bool.{or_parts}
-use Rattle.std.proofs.lemmas.List.{append-nil, length-take-le}
+use Rattle.std.proofs.lemmas.Bool.{eqb-true, or_parts}
+use Rattle.std.proofs.lemmas.List.{append-nil, length-take-le, take_rest}
 use Rattle.std.specs.Prelude.{IfSome, option_map, slice_index}
 use Rattle.std.specs.List.{concat, prefix_len}
 use Rattle.rhai_lower.specs.Entries.{token_may_be_delivered}
@@ -21,16 +21,20 @@ use Rattle.rhai_tokenizer.specs.declared.lexer.Kind.TheVariants as kind
 use Rattle.rhai_tokenizer.specs.declared.limits.Limits.{Limits}
 use Rattle.rhai_tokenizer.specs.declared.place.Place.{Place}
 use Rattle.rhai_tokenizer.specs.declared.reading.Reading.{Reading}
+use Rattle.rhai_tokenizer.specs.declared.table.Fixed.{Fixed}
+use Rattle.rhai_tokenizer.specs.declared.table.Fixed.TheVariants as fixed
 use Rattle.rhai_tokenizer.specs.declared.table.Meaning.{Meaning}
+use Rattle.rhai_tokenizer.specs.declared.table.Meaning.TheVariants.{Plain}
 use Rattle.rhai_tokenizer.specs.declared.tokens.Tokens.{Tokens}
-use Rattle.rhai_tokenizer.specs.Bytes.{blanks, is_empty}
+use Rattle.rhai_tokenizer.specs.Bytes.{begins, blanks, is_empty}
 use Rattle.rhai_tokenizer.specs.Cutting.{first_class, next_at, piece_at, number_cut, sign_cut}
-use Rattle.rhai_tokenizer.specs.CuttingMeanings.{cut_brace, cut_symbol, cut_token, is_sign, meaning_of}
+use Rattle.rhai_tokenizer.specs.CuttingMeanings.{IsAlone, cut_brace, cut_symbol, cut_token, is_sign, meaning_of}
 use Rattle.rhai_tokenizer.specs.Meanings.{Found, brace_of_symbol, braces_after, opens_after, operand_then, text_after}
 use Rattle.rhai_tokenizer.specs.Places.{past}
 use Rattle.rhai_tokenizer.specs.Runs.{run_from}
 use Rattle.rhai_tokenizer.specs.Turns.{IsFront, IsIn, IsTurn, Joins, before_of, due, found_of, place_of}
 use Rattle.rhai_tokenizer.proofs.FrontLemmas.{IsCut, front_is, is_cut, known_cut, token_found}
+use Rattle.rhai_tokenizer.proofs.LeadLemmas.{brace_alone}
 use Rattle.rhai_tokenizer.proofs.TurnLemmas.{before_after}
 
 -- what the code leaves of the braces and their state, where a piece does this to them
@@ -126,16 +130,16 @@ pub no_limits : Limits
 no_limits = record { doc_comments = false; max_string_size = 0 }
 
 -- what a symbol leaves of the braces
-pub symbol_braces : (old mid new : Reading) (k : Brace) (text : Text) → mid.braces ≡ old.braces → mid.opens ≡ old.opens
+pub symbol_braces : (old mid new : Reading) (k : Brace) (text : Text) → mid.braces ≡ old.braces → old.opens ≡ false
     → k ≡ brace_of_symbol text → new.in_text ≡ text_after k (reverse mid.braces.items)
-    → reverse new.braces.items ≡ braces_after k mid.opens (reverse mid.braces.items) → new.opens ≡ false
+    → reverse new.braces.items ≡ braces_after k false (reverse mid.braces.items) → new.opens ≡ false
     → Braces old new (brace_of_symbol text)
 symbol_braces old mid new k text bs os ks i b s = record {
   in_text = i ∙ (ap (λ k. text_after k (reverse mid.braces.items)) ks
       ∙ ap (λ b. text_after (brace_of_symbol text) (reverse b.items)) bs);
-  braces = b ∙ (ap (λ k. braces_after k mid.opens (reverse mid.braces.items)) ks
-      ∙ (ap (λ o. braces_after (brace_of_symbol text) o (reverse mid.braces.items)) os
-      ∙ ap (λ b. braces_after (brace_of_symbol text) old.opens (reverse b.items)) bs));
+  braces = b ∙ (ap (λ k. braces_after k false (reverse mid.braces.items)) ks
+      ∙ (ap (λ b. braces_after (brace_of_symbol text) false (reverse b.items)) bs
+      ∙ ap (λ o. braces_after (brace_of_symbol text) o (reverse old.braces.items)) (sym os)));
   opens = s ∙ no_opening (same_text text (codes "{") || same_text text (codes "#{")) (same_text text (codes "}"));
 }
   where
@@ -186,3 +190,32 @@ no_sign o m (c ∷ t) some h =
         ≡ l
     by true l = refl
     by false l = refl
+
+-- a symbol of one byte
+pub lone_piece : (limits : Limits) (o : Bool) (place : Place) (t : Text) (f : Fixed) → is_empty t ≡ false
+    → IsAlone (slice_index t 0) (drop 1 t) f → IsCut limits o place t (kind.Symbol (Plain f)) 1
+lone_piece limits o place t f some is =
+    sign_piece limits o place t t (kind.Symbol (Plain f)) 1 some is.class refl
+    (is.cut ∙ ap (sign_cut (slice_index t 0)) (sym (take_rest t 1)))
+
+-- such a symbol leaves the braces
+pub lone_braces : (old new : Reading) (t : Text) → is_empty t ≡ false
+    → brace_of_symbol (slice_index t 0 ∷ []) ≡ brace.Stays → new.in_text ≡ false
+    → reverse new.braces.items ≡ reverse old.braces.items → new.opens ≡ false
+    → Braces old new (brace_of_symbol (take 1 t))
+lone_braces old new [] some is i bs o = absurd (true≢false some)
+lone_braces old new (c ∷ t) some is i bs o =
+    let stays : Braces old new brace.Stays = record { in_text = i; braces = bs; opens = o } in
+    subst (λ (k : Brace). Braces old new k) (sym is) stays
+
+-- the front of a text that begins with `{`
+pub record Opening (t : Text) : Type 0 where
+  pub some : is_empty t ≡ false
+  pub alone : IsAlone (slice_index t 0) (drop 1 t) fixed.LeftBrace
+  pub opens : brace.Opens ≡ brace_of_symbol (take 1 t)
+
+pub opening : (t : Text) → begins (λ c. c == 123) t ≡ true → Opening t
+opening [] h = absurd (true≢false (sym h))
+opening (c ∷ t) h =
+    let at : Opening (123 ∷ t) = record { some = refl; alone = brace_alone t; opens = refl } in
+    subst (λ (c : ℕ). Opening (c ∷ t)) (sym (eqb-true c 123 h)) at

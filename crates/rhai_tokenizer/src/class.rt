@@ -3,8 +3,10 @@
 ghost use Rattle.std.specs.Prelude.{◌≡◌, ◌≤◌, length};
 ghost use Rattle.rhai_lower.specs.Names.{is_word};
 ghost use Rattle.std.specs.Char.{digit_value};
-ghost use Rattle.rhai_tokenizer.specs.Bytes.{base_of, is_digit_after, is_letter};
+ghost use Rattle.rhai_tokenizer.specs.Bytes.{base_of, is_digit_after};
 ghost use Rattle.rhai_tokenizer.specs.Cutting as spec;
+
+use crate::table::Fixed;
 
 /// What begins with a byte.
 #[derive(Clone, Copy)]
@@ -56,6 +58,299 @@ pub fn first_class(byte: u8) -> First
     }
 }
 
+/// What begins with a byte, where usual pieces are told from all others.
+#[derive(Clone, Copy)]
+pub enum Lead {
+    /// A word.
+    Word,
+    /// White space.
+    Blank,
+    /// A `{`.
+    Brace,
+    /// A symbol of this byte alone.
+    Closer(Fixed),
+    /// A symbol of this byte alone, unless the next byte continues it.
+    Sign(Fixed),
+    /// Another piece.
+    Other,
+}
+
+// What begins with each byte.
+static LEADS: [Lead; 256] = [
+    Lead::Other,
+    Lead::Other,
+    Lead::Other,
+    Lead::Other,
+    Lead::Other,
+    Lead::Other,
+    Lead::Other,
+    Lead::Other,
+    Lead::Other,
+    Lead::Blank,
+    Lead::Blank,
+    Lead::Blank,
+    Lead::Blank,
+    Lead::Blank,
+    Lead::Other,
+    Lead::Other,
+    Lead::Other,
+    Lead::Other,
+    Lead::Other,
+    Lead::Other,
+    Lead::Other,
+    Lead::Other,
+    Lead::Other,
+    Lead::Other,
+    Lead::Other,
+    Lead::Other,
+    Lead::Other,
+    Lead::Other,
+    Lead::Other,
+    Lead::Other,
+    Lead::Other,
+    Lead::Other,
+    Lead::Blank,
+    Lead::Other,
+    Lead::Other,
+    Lead::Other,
+    Lead::Other,
+    Lead::Sign(Fixed::Modulo),
+    Lead::Sign(Fixed::Ampersand),
+    Lead::Other,
+    Lead::Sign(Fixed::LeftParen),
+    Lead::Closer(Fixed::RightParen),
+    Lead::Sign(Fixed::Multiply),
+    Lead::Other,
+    Lead::Closer(Fixed::Comma),
+    Lead::Other,
+    Lead::Sign(Fixed::Period),
+    Lead::Other,
+    Lead::Other,
+    Lead::Other,
+    Lead::Other,
+    Lead::Other,
+    Lead::Other,
+    Lead::Other,
+    Lead::Other,
+    Lead::Other,
+    Lead::Other,
+    Lead::Other,
+    Lead::Sign(Fixed::Colon),
+    Lead::Closer(Fixed::SemiColon),
+    Lead::Sign(Fixed::LessThan),
+    Lead::Sign(Fixed::Equals),
+    Lead::Sign(Fixed::GreaterThan),
+    Lead::Other,
+    Lead::Other,
+    Lead::Word,
+    Lead::Word,
+    Lead::Word,
+    Lead::Word,
+    Lead::Word,
+    Lead::Word,
+    Lead::Word,
+    Lead::Word,
+    Lead::Word,
+    Lead::Word,
+    Lead::Word,
+    Lead::Word,
+    Lead::Word,
+    Lead::Word,
+    Lead::Word,
+    Lead::Word,
+    Lead::Word,
+    Lead::Word,
+    Lead::Word,
+    Lead::Word,
+    Lead::Word,
+    Lead::Word,
+    Lead::Word,
+    Lead::Word,
+    Lead::Word,
+    Lead::Word,
+    Lead::Closer(Fixed::LeftBracket),
+    Lead::Other,
+    Lead::Closer(Fixed::RightBracket),
+    Lead::Sign(Fixed::XOr),
+    Lead::Word,
+    Lead::Other,
+    Lead::Word,
+    Lead::Word,
+    Lead::Word,
+    Lead::Word,
+    Lead::Word,
+    Lead::Word,
+    Lead::Word,
+    Lead::Word,
+    Lead::Word,
+    Lead::Word,
+    Lead::Word,
+    Lead::Word,
+    Lead::Word,
+    Lead::Word,
+    Lead::Word,
+    Lead::Word,
+    Lead::Word,
+    Lead::Word,
+    Lead::Word,
+    Lead::Word,
+    Lead::Word,
+    Lead::Word,
+    Lead::Word,
+    Lead::Word,
+    Lead::Word,
+    Lead::Word,
+    Lead::Brace,
+    Lead::Sign(Fixed::Pipe),
+    Lead::Other,
+    Lead::Other,
+    Lead::Other,
+    Lead::Other,
+    Lead::Other,
+    Lead::Other,
+    Lead::Other,
+    Lead::Other,
+    Lead::Other,
+    Lead::Other,
+    Lead::Other,
+    Lead::Other,
+    Lead::Other,
+    Lead::Other,
+    Lead::Other,
+    Lead::Other,
+    Lead::Other,
+    Lead::Other,
+    Lead::Other,
+    Lead::Other,
+    Lead::Other,
+    Lead::Other,
+    Lead::Other,
+    Lead::Other,
+    Lead::Other,
+    Lead::Other,
+    Lead::Other,
+    Lead::Other,
+    Lead::Other,
+    Lead::Other,
+    Lead::Other,
+    Lead::Other,
+    Lead::Other,
+    Lead::Other,
+    Lead::Other,
+    Lead::Other,
+    Lead::Other,
+    Lead::Other,
+    Lead::Other,
+    Lead::Other,
+    Lead::Other,
+    Lead::Other,
+    Lead::Other,
+    Lead::Other,
+    Lead::Other,
+    Lead::Other,
+    Lead::Other,
+    Lead::Other,
+    Lead::Other,
+    Lead::Other,
+    Lead::Other,
+    Lead::Other,
+    Lead::Other,
+    Lead::Other,
+    Lead::Other,
+    Lead::Other,
+    Lead::Other,
+    Lead::Other,
+    Lead::Other,
+    Lead::Other,
+    Lead::Other,
+    Lead::Other,
+    Lead::Other,
+    Lead::Other,
+    Lead::Other,
+    Lead::Other,
+    Lead::Other,
+    Lead::Other,
+    Lead::Other,
+    Lead::Other,
+    Lead::Other,
+    Lead::Other,
+    Lead::Other,
+    Lead::Other,
+    Lead::Other,
+    Lead::Other,
+    Lead::Other,
+    Lead::Other,
+    Lead::Other,
+    Lead::Other,
+    Lead::Other,
+    Lead::Other,
+    Lead::Other,
+    Lead::Other,
+    Lead::Other,
+    Lead::Other,
+    Lead::Other,
+    Lead::Other,
+    Lead::Other,
+    Lead::Other,
+    Lead::Other,
+    Lead::Other,
+    Lead::Other,
+    Lead::Other,
+    Lead::Other,
+    Lead::Other,
+    Lead::Other,
+    Lead::Other,
+    Lead::Other,
+    Lead::Other,
+    Lead::Other,
+    Lead::Other,
+    Lead::Other,
+    Lead::Other,
+    Lead::Other,
+    Lead::Other,
+    Lead::Other,
+    Lead::Other,
+    Lead::Other,
+    Lead::Other,
+    Lead::Other,
+    Lead::Other,
+    Lead::Other,
+    Lead::Other,
+    Lead::Other,
+    Lead::Other,
+    Lead::Other,
+    Lead::Other,
+    Lead::Other,
+    Lead::Other,
+    Lead::Other,
+    Lead::Other,
+    Lead::Other,
+    Lead::Other,
+    Lead::Other,
+    Lead::Other,
+    Lead::Other,
+    Lead::Other,
+    Lead::Other,
+    Lead::Other,
+    Lead::Other,
+];
+
+#[tactic(auto, unfolding(crate::specs::Cutting::lead_table))]
+fn leads() -> &'static [Lead]
+    ensures value { result.now ≡ spec.lead_table }
+    ensures len { length result.now ≡ 256 }
+{
+    &LEADS
+}
+
+/// What begins with this byte.
+#[inline(always)]
+pub fn lead_of(byte: u8) -> Lead
+    ensures { result ≡ spec.lead_of byte }
+{
+    leads()[byte as usize]
+}
+
 /// Bytes of one kind, as a piece goes on with them.
 #[derive(Clone, Copy)]
 pub enum Class {
@@ -103,14 +398,6 @@ fn is_second(b: u8) -> bool
     ensures { result ≡ spec.is_second b }
 {
     bytes()[b as usize] == 2
-}
-
-/// Whether a word begins with a byte.
-#[inline(always)]
-pub fn is_letter(b: u8) -> bool
-    ensures { result ≡ is_letter b }
-{
-    b.is_ascii_alphabetic() || b == b'_'
 }
 
 /// Whether a byte is white space.

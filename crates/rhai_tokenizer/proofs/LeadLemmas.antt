@@ -1,0 +1,296 @@
+-- What begins with a byte, as the table of leads says it.
+use Rattle.std.proofs.Common.{◌≡◌, ℕ, zero, suc, ◌+◌, ◌<◌, Bool, true, false, cond, not, ◌&&◌, ◌||◌, ◌==◌, List, [], ◌∷◌, map, get_or, Option, Some, None, refl, sym, ap, ◌∙◌, arith, true≢false, take, drop}
+use Rattle.std.proofs.lemmas.Bool.{eqb-true, or_parts}
+use Rattle.std.specs.Prelude.{slice_index}
+use Rattle.rhai_lower.specs.Texts.{Text, same_text}
+use Rattle.rhai_tokenizer.specs.declared.braces.Brace.TheVariants as brace
+use Rattle.rhai_tokenizer.specs.declared.class.First.{First}
+use Rattle.rhai_tokenizer.specs.declared.class.First.TheVariants as first
+use Rattle.rhai_tokenizer.specs.declared.class.Lead.{Lead}
+use Rattle.rhai_tokenizer.specs.declared.class.Lead.TheVariants as lead
+use Rattle.rhai_tokenizer.specs.declared.table.Fixed.{Fixed}
+use Rattle.rhai_tokenizer.specs.declared.table.Fixed.TheVariants as fixed
+use Rattle.rhai_tokenizer.specs.declared.table.Meaning.{Meaning}
+use Rattle.rhai_tokenizer.specs.declared.table.Meaning.TheVariants.{Plain, Held, Refused}
+use Rattle.rhai_tokenizer.specs.Bytes.{begins}
+use Rattle.rhai_tokenizer.specs.Cutting.{entry_of, first_class, goes_on, is_closer, is_second, lead_in, lead_of, lead_table, plain_lead, symbol_lead, symbol_table}
+use Rattle.rhai_tokenizer.specs.CuttingMeanings.{IsAlone, is_sign}
+use Rattle.rhai_tokenizer.specs.Meanings.{brace_of_symbol}
+use Rattle.rhai_tokenizer.proofs.ByteLemmas.{same_is}
+use Rattle.rhai_tokenizer.proofs.ClassLemmas.{other_hash}
+use Rattle.rhai_tokenizer.proofs.SymbolLemmas.{lone_cut}
+
+-- so many numbers, from this one on
+abbrev upto : (from n : ℕ) → List ℕ
+upto from zero = []
+upto from (suc n) = from ∷ upto (suc from) n
+
+leads_right : map lead_of (upto 0 256) ≡ lead_table
+unfolding lead_of lead_table symbol_table
+leads_right = refl
+
+mapped_at : (f : ℕ → Lead) (from n i : ℕ) (d : Lead) → i < n → get_or (map f (upto from n)) i d ≡ f (from + i)
+mapped_at f from zero i d h = absurd (omega arith)
+mapped_at f from (suc n) zero d h = let e : from ≡ from + 0 = omega arith in ap f e
+mapped_at f from (suc n) (suc i) d h =
+    let e : suc from + i ≡ from + suc i = omega arith in
+    mapped_at f (suc from) n i d (omega arith) ∙ ap f e
+
+pub lead_at : (b : ℕ) (d : Lead) → b < 256 → get_or lead_table b d ≡ lead_of b
+lead_at b d h =
+    let e : 0 + b ≡ b = omega arith in
+    ap (λ xs. get_or xs b d) (sym leads_right) ∙ (mapped_at lead_of 0 256 b d h ∙ ap lead_of e)
+
+-- ---- what a lead says of the byte
+
+abbrev is_word : Lead → Bool
+is_word lead.Word = true
+is_word l = false
+
+abbrev is_blank : Lead → Bool
+is_blank lead.Blank = true
+is_blank l = false
+
+abbrev is_brace : Lead → Bool
+is_brace lead.Brace = true
+is_brace l = false
+
+-- what holds of no symbol, brace or other byte
+not_symbol : (p : Lead → Bool) (c : ℕ) (a b : Bool) (o : Option (Text × Meaning)) → p lead.Brace ≡ false
+    → p lead.Other ≡ false → ((f : Fixed) → p (lead.Closer f) ≡ false) → ((f : Fixed) → p (lead.Sign f) ≡ false)
+    → p (cond a lead.Brace (cond b lead.Other (symbol_lead c o))) ≡ false
+not_symbol p c true b o br ot cl si = br
+not_symbol p c false true o br ot cl si = ot
+not_symbol p c false false None br ot cl si = ot
+not_symbol p c false false (Some e) br ot cl si = by (same_text e.0 (c ∷ [])) e.1 (is_closer c)
+  where
+    by : (a : Bool) (m : Meaning) (b : Bool) → p (cond a (plain_lead c m) lead.Other) ≡ false
+    by false m b = ot
+    by true Held b = ot
+    by true (Refused n) b = ot
+    by true (Plain k) b = kind (is_closer c) k
+      where
+        kind : (b : Bool) (k : Fixed) → p (cond b (lead.Closer k) (lead.Sign k)) ≡ false
+        kind true k = cl k
+        kind false k = si k
+
+pub word_lead : (c : ℕ) → lead.Word ≡ lead_of c → first.Letter ≡ first_class c
+unfolding lead_of
+word_lead c e = by (first_class c) (ap is_word e)
+  where
+    by : (k : First) → true ≡ is_word (lead_in k c) → first.Letter ≡ k
+    by first.Letter e = refl
+    by first.Other e = absurd (true≢false (e ∙ not_symbol is_word c (c == 123) (c == 43 || c == 125)
+        (entry_of symbol_table (c ∷ [])) refl refl (λ f. refl) (λ f. refl)))
+    by first.Space e = absurd (true≢false e)
+    by first.Digit e = absurd (true≢false e)
+    by first.Far e = absurd (true≢false e)
+    by first.Quote e = absurd (true≢false e)
+    by first.Tick e = absurd (true≢false e)
+    by first.Apostrophe e = absurd (true≢false e)
+    by first.Slash e = absurd (true≢false e)
+    by first.Bang e = absurd (true≢false e)
+    by first.Minus e = absurd (true≢false e)
+    by first.Hash e = absurd (true≢false e)
+
+pub blank_lead : (c : ℕ) → lead.Blank ≡ lead_of c → first.Space ≡ first_class c
+unfolding lead_of
+blank_lead c e = by (first_class c) (ap is_blank e)
+  where
+    by : (k : First) → true ≡ is_blank (lead_in k c) → first.Space ≡ k
+    by first.Space e = refl
+    by first.Other e = absurd (true≢false (e ∙ not_symbol is_blank c (c == 123) (c == 43 || c == 125)
+        (entry_of symbol_table (c ∷ [])) refl refl (λ f. refl) (λ f. refl)))
+    by first.Letter e = absurd (true≢false e)
+    by first.Digit e = absurd (true≢false e)
+    by first.Far e = absurd (true≢false e)
+    by first.Quote e = absurd (true≢false e)
+    by first.Tick e = absurd (true≢false e)
+    by first.Apostrophe e = absurd (true≢false e)
+    by first.Slash e = absurd (true≢false e)
+    by first.Bang e = absurd (true≢false e)
+    by first.Minus e = absurd (true≢false e)
+    by first.Hash e = absurd (true≢false e)
+
+pub brace_lead : (c : ℕ) → lead.Brace ≡ lead_of c → (c == 123) ≡ true
+unfolding lead_of
+brace_lead c e = by (first_class c) (ap is_brace e)
+  where
+    sym_only : (a b : Bool) (o : Option (Text × Meaning)) → true ≡ is_brace (cond a lead.Brace (cond b lead.Other (symbol_lead c o)))
+        → a ≡ true
+    sym_only true b o e = refl
+    sym_only false b o e = absurd (true≢false (e ∙ none b o))
+      where
+        none : (b : Bool) (o : Option (Text × Meaning)) → is_brace (cond b lead.Other (symbol_lead c o)) ≡ false
+        none true o = refl
+        none false None = refl
+        none false (Some e) = by (same_text e.0 (c ∷ [])) e.1 (is_closer c)
+          where
+            by : (a : Bool) (m : Meaning) (b : Bool) → is_brace (cond a (plain_lead c m) lead.Other) ≡ false
+            by false m b = refl
+            by true Held b = refl
+            by true (Refused n) b = refl
+            by true (Plain k) b = kind (is_closer c) k
+              where
+                kind : (b : Bool) (k : Fixed) → is_brace (cond b (lead.Closer k) (lead.Sign k)) ≡ false
+                kind true k = refl
+                kind false k = refl
+
+    by : (k : First) → true ≡ is_brace (lead_in k c) → (c == 123) ≡ true
+    by first.Other e = sym_only (c == 123) (c == 43 || c == 125) (entry_of symbol_table (c ∷ [])) e
+    by first.Letter e = absurd (true≢false e)
+    by first.Space e = absurd (true≢false e)
+    by first.Digit e = absurd (true≢false e)
+    by first.Far e = absurd (true≢false e)
+    by first.Quote e = absurd (true≢false e)
+    by first.Tick e = absurd (true≢false e)
+    by first.Apostrophe e = absurd (true≢false e)
+    by first.Slash e = absurd (true≢false e)
+    by first.Bang e = absurd (true≢false e)
+    by first.Minus e = absurd (true≢false e)
+    by first.Hash e = absurd (true≢false e)
+
+-- the symbol of a lead
+abbrev pub fixed_in : Lead → Option Fixed
+fixed_in (lead.Closer f) = Some f
+fixed_in (lead.Sign f) = Some f
+fixed_in l = None
+
+-- what is known of a byte that leads with a symbol
+record Leads (c : ℕ) (f : Fixed) : Type 0 where
+  class : first.Other ≡ first_class c
+  entry : entry_of symbol_table (c ∷ []) ≡ Some (c ∷ [], Plain f)
+  opens : (c == 123) ≡ false
+  others : (c == 43 || c == 125) ≡ false
+
+leads_in : (c : ℕ) (f : Fixed) (a b : Bool) (o : Option (Text × Meaning)) → first.Other ≡ first_class c
+    → (c == 123) ≡ a → (c == 43 || c == 125) ≡ b → entry_of symbol_table (c ∷ []) ≡ o
+    → Some f ≡ fixed_in (cond a lead.Brace (cond b lead.Other (symbol_lead c o))) → Leads c f
+leads_in c f true b o k x y z e = absurd cc
+leads_in c f false true o k x y z e = absurd cc
+leads_in c f false false None k x y z e = absurd cc
+leads_in c f false false (Some (s, m)) k x y z e = by (same_text s (c ∷ [])) m refl z e
+  where
+    by : (a : Bool) (m : Meaning) → same_text s (c ∷ []) ≡ a → entry_of symbol_table (c ∷ []) ≡ Some (s, m)
+        → Some f ≡ fixed_in (cond a (plain_lead c m) lead.Other) → Leads c f
+    by false m h z e = absurd cc
+    by true Held h z e = absurd cc
+    by true (Refused n) h z e = absurd cc
+    by true (Plain g) h z e = kind (is_closer c) e
+      where
+        same : f ≡ g → Leads c f
+        same is = record {
+          class = k;
+          entry = z ∙ (ap (λ s. Some (s, Plain g)) (same_is s (c ∷ []) h) ∙ ap (λ g. Some (c ∷ [], Plain g)) (sym is));
+          opens = x;
+          others = y;
+        }
+
+        kind : (b : Bool) → Some f ≡ fixed_in (cond b (lead.Closer g) (lead.Sign g)) → Leads c f
+        kind true e = same cc
+        kind false e = same cc
+
+leads_of : (c : ℕ) (f : Fixed) → Some f ≡ fixed_in (lead_of c) → Leads c f
+unfolding lead_of
+leads_of c f e = by (first_class c) refl e
+  where
+    by : (k : First) → first_class c ≡ k → Some f ≡ fixed_in (lead_in k c) → Leads c f
+    by first.Other k e = leads_in c f (c == 123) (c == 43 || c == 125) (entry_of symbol_table (c ∷ [])) (sym k) refl refl
+        refl e
+    by first.Letter k e = absurd cc
+    by first.Space k e = absurd cc
+    by first.Digit k e = absurd cc
+    by first.Far k e = absurd cc
+    by first.Quote k e = absurd cc
+    by first.Tick k e = absurd cc
+    by first.Apostrophe k e = absurd cc
+    by first.Slash k e = absurd cc
+    by first.Bang k e = absurd cc
+    by first.Minus k e = absurd cc
+    by first.Hash k e = absurd cc
+
+abbrev is_closing : Lead → Bool
+is_closing (lead.Closer f) = true
+is_closing l = false
+
+closing_in : (c : ℕ) (a b : Bool) (o : Option (Text × Meaning))
+    → true ≡ is_closing (cond a lead.Brace (cond b lead.Other (symbol_lead c o))) → is_closer c ≡ true
+closing_in c true b o e = absurd (true≢false e)
+closing_in c false true o e = absurd (true≢false e)
+closing_in c false false None e = absurd (true≢false e)
+closing_in c false false (Some (s, m)) e = by (same_text s (c ∷ [])) m e
+  where
+    by : (a : Bool) (m : Meaning) → true ≡ is_closing (cond a (plain_lead c m) lead.Other) → is_closer c ≡ true
+    by false m e = absurd (true≢false e)
+    by true Held e = absurd (true≢false e)
+    by true (Refused n) e = absurd (true≢false e)
+    by true (Plain g) e = kind (is_closer c) e
+      where
+        kind : (b : Bool) → true ≡ is_closing (cond b (lead.Closer g) (lead.Sign g)) → b ≡ true
+        kind true e = refl
+        kind false e = absurd (true≢false e)
+
+closing_of : (c : ℕ) → true ≡ is_closing (lead_of c) → is_closer c ≡ true
+unfolding lead_of
+closing_of c e = by (first_class c) e
+  where
+    by : (k : First) → true ≡ is_closing (lead_in k c) → is_closer c ≡ true
+    by first.Other e = closing_in c (c == 123) (c == 43 || c == 125) (entry_of symbol_table (c ∷ [])) e
+    by first.Letter e = absurd (true≢false e)
+    by first.Space e = absurd (true≢false e)
+    by first.Digit e = absurd (true≢false e)
+    by first.Far e = absurd (true≢false e)
+    by first.Quote e = absurd (true≢false e)
+    by first.Tick e = absurd (true≢false e)
+    by first.Apostrophe e = absurd (true≢false e)
+    by first.Slash e = absurd (true≢false e)
+    by first.Bang e = absurd (true≢false e)
+    by first.Minus e = absurd (true≢false e)
+    by first.Hash e = absurd (true≢false e)
+
+-- ---- a symbol of one byte
+
+no_minus : (c : ℕ) → first.Other ≡ first_class c → (c == 45) ≡ false
+no_minus c e = by (c == 45) refl
+  where
+    is_minus : First → Bool
+    is_minus first.Minus = true
+    is_minus k = false
+
+    by : (b : Bool) → (c == 45) ≡ b → b ≡ false
+    by false h = refl
+    by true h = absurd (true≢false (sym (ap is_minus (e ∙ ap first_class (eqb-true c 45 h)))))
+
+alone_of : (c : ℕ) (t : Text) (f : Fixed) → goes_on c t ≡ false → Leads c f → IsAlone c t f
+alone_of c t f g l = record {
+  class = l.class;
+  cut = lone_cut c t f (other_hash c l.class) g l.entry;
+  sign = rw ((or_parts (c == 43) (c == 125) l.others).0, no_minus c l.class) refl;
+}
+
+pub closer_alone : (c : ℕ) (t : Text) (f : Fixed) → lead.Closer f ≡ lead_of c → IsAlone c t f
+closer_alone c t f e = alone_of c t f (rw (closing_of c (ap is_closing e)) refl) (leads_of c f (ap fixed_in e))
+
+pub sign_alone : (c : ℕ) (t : Text) (f : Fixed) → begins is_second t ≡ false → lead.Sign f ≡ lead_of c → IsAlone c t f
+sign_alone c t f g e = alone_of c t f (by (is_closer c) (begins is_second t) g) (leads_of c f (ap fixed_in e))
+  where
+    by : (a b : Bool) → b ≡ false → (not a && b) ≡ false
+    by true b h = refl
+    by false b h = h
+
+-- it changes no braces
+pub keeps_braces : (c : ℕ) (f : Fixed) → Some f ≡ fixed_in (lead_of c) → brace_of_symbol (c ∷ []) ≡ brace.Stays
+keeps_braces c f e = let l = leads_of c f e in rw (l.opens, (or_parts (c == 43) (c == 125) l.others).1) (by (c == 35))
+  where
+    by : (b : Bool) → cond (b && false) brace.Opens brace.Stays ≡ brace.Stays
+    by true = refl
+    by false = refl
+
+-- a `{`
+pub brace_alone : (t : Text) → IsAlone 123 t fixed.LeftBrace
+unfolding symbol_table
+brace_alone t = record { class = refl; cut = lone_cut 123 t fixed.LeftBrace refl refl refl; sign = refl }
+
+pub brace_begins : (t : Text) → (slice_index t 0 == 123) ≡ true → begins (λ c. c == 123) t ≡ true
+brace_begins [] h = absurd (true≢false (sym h))
+brace_begins (c ∷ t) h = h
