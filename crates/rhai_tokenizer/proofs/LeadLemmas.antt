@@ -1,6 +1,6 @@
 -- What begins with a byte, as the table of leads says it.
 use Rattle.std.proofs.Common.{◌≡◌, ℕ, zero, suc, ◌+◌, ◌<◌, Bool, true, false, cond, not, ◌&&◌, ◌||◌, ◌==◌, List, [], ◌∷◌, map, get_or, Option, Some, None, refl, sym, ap, ◌∙◌, arith, true≢false, take, drop}
-use Rattle.std.proofs.lemmas.Bool.{eqb-true, or_parts}
+use Rattle.std.proofs.lemmas.Bool.{eqb-true}
 use Rattle.std.specs.Prelude.{slice_index}
 use Rattle.rhai_lower.specs.Texts.{Text, same_text}
 use Rattle.rhai_tokenizer.specs.declared.braces.Brace.TheVariants as brace
@@ -55,14 +55,23 @@ abbrev is_brace : Lead → Bool
 is_brace lead.Brace = true
 is_brace l = false
 
+abbrev is_end : Lead → Bool
+is_end lead.End = true
+is_end l = false
+
+abbrev is_digit : Lead → Bool
+is_digit lead.Digit = true
+is_digit l = false
+
 -- what holds of no symbol, brace or other byte
-not_symbol : (p : Lead → Bool) (c : ℕ) (a b : Bool) (o : Option (Text × Meaning)) → p lead.Brace ≡ false
-    → p lead.Other ≡ false → ((f : Fixed) → p (lead.Closer f) ≡ false) → ((f : Fixed) → p (lead.Sign f) ≡ false)
-    → p (cond a lead.Brace (cond b lead.Other (symbol_lead c o))) ≡ false
-not_symbol p c true b o br ot cl si = br
-not_symbol p c false true o br ot cl si = ot
-not_symbol p c false false None br ot cl si = ot
-not_symbol p c false false (Some e) br ot cl si = by (same_text e.0 (c ∷ [])) e.1 (is_closer c)
+not_symbol : (p : Lead → Bool) (c : ℕ) (a b d : Bool) (o : Option (Text × Meaning)) → p lead.Brace ≡ false
+    → p lead.End ≡ false → p lead.Other ≡ false → ((f : Fixed) → p (lead.Closer f) ≡ false) → ((f : Fixed) → p (lead.Sign f) ≡ false)
+    → p (cond a lead.Brace (cond b lead.End (cond d lead.Other (symbol_lead c o)))) ≡ false
+not_symbol p c true b d o br en ot cl si = br
+not_symbol p c false true d o br en ot cl si = en
+not_symbol p c false false true o br en ot cl si = ot
+not_symbol p c false false false None br en ot cl si = ot
+not_symbol p c false false false (Some e) br en ot cl si = by (same_text e.0 (c ∷ [])) e.1 (is_closer c)
   where
     by : (a : Bool) (m : Meaning) (b : Bool) → p (cond a (plain_lead c m) lead.Other) ≡ false
     by false m b = ot
@@ -80,8 +89,8 @@ word_lead c e = by (first_class c) (ap is_word e)
   where
     by : (k : First) → true ≡ is_word (lead_in k c) → first.Letter ≡ k
     by first.Letter e = refl
-    by first.Other e = absurd (true≢false (e ∙ not_symbol is_word c (c == 123) (c == 43 || c == 125)
-        (entry_of symbol_table (c ∷ [])) refl refl (λ f. refl) (λ f. refl)))
+    by first.Other e = absurd (true≢false (e ∙ not_symbol is_word c (c == 123) (c == 125) (c == 43)
+        (entry_of symbol_table (c ∷ [])) refl refl refl (λ f. refl) (λ f. refl)))
     by first.Space e = absurd (true≢false e)
     by first.Digit e = absurd (true≢false e)
     by first.Far e = absurd (true≢false e)
@@ -99,8 +108,8 @@ blank_lead c e = by (first_class c) (ap is_blank e)
   where
     by : (k : First) → true ≡ is_blank (lead_in k c) → first.Space ≡ k
     by first.Space e = refl
-    by first.Other e = absurd (true≢false (e ∙ not_symbol is_blank c (c == 123) (c == 43 || c == 125)
-        (entry_of symbol_table (c ∷ [])) refl refl (λ f. refl) (λ f. refl)))
+    by first.Other e = absurd (true≢false (e ∙ not_symbol is_blank c (c == 123) (c == 125) (c == 43)
+        (entry_of symbol_table (c ∷ [])) refl refl refl (λ f. refl) (λ f. refl)))
     by first.Letter e = absurd (true≢false e)
     by first.Digit e = absurd (true≢false e)
     by first.Far e = absurd (true≢false e)
@@ -112,35 +121,82 @@ blank_lead c e = by (first_class c) (ap is_blank e)
     by first.Minus e = absurd (true≢false e)
     by first.Hash e = absurd (true≢false e)
 
+-- where the table of symbols is asked, no brace leads
+symbol_only : (p : Lead → Bool) (c : ℕ) (d : Bool) (o : Option (Text × Meaning)) → p lead.Other ≡ false
+    → ((f : Fixed) → p (lead.Closer f) ≡ false) → ((f : Fixed) → p (lead.Sign f) ≡ false)
+    → p (cond d lead.Other (symbol_lead c o)) ≡ false
+symbol_only p c true o ot cl si = ot
+symbol_only p c false None ot cl si = ot
+symbol_only p c false (Some e) ot cl si = by (same_text e.0 (c ∷ [])) e.1
+  where
+    by : (a : Bool) (m : Meaning) → p (cond a (plain_lead c m) lead.Other) ≡ false
+    by false m = ot
+    by true Held = ot
+    by true (Refused n) = ot
+    by true (Plain k) = kind (is_closer c)
+      where
+        kind : (b : Bool) → p (cond b (lead.Closer k) (lead.Sign k)) ≡ false
+        kind true = cl k
+        kind false = si k
+
 pub brace_lead : (c : ℕ) → lead.Brace ≡ lead_of c → (c == 123) ≡ true
 unfolding lead_of
 brace_lead c e = by (first_class c) (ap is_brace e)
   where
-    sym_only : (a b : Bool) (o : Option (Text × Meaning)) → true ≡ is_brace (cond a lead.Brace (cond b lead.Other (symbol_lead c o)))
-        → a ≡ true
-    sym_only true b o e = refl
-    sym_only false b o e = absurd (true≢false (e ∙ none b o))
-      where
-        none : (b : Bool) (o : Option (Text × Meaning)) → is_brace (cond b lead.Other (symbol_lead c o)) ≡ false
-        none true o = refl
-        none false None = refl
-        none false (Some e) = by (same_text e.0 (c ∷ [])) e.1 (is_closer c)
-          where
-            by : (a : Bool) (m : Meaning) (b : Bool) → is_brace (cond a (plain_lead c m) lead.Other) ≡ false
-            by false m b = refl
-            by true Held b = refl
-            by true (Refused n) b = refl
-            by true (Plain k) b = kind (is_closer c) k
-              where
-                kind : (b : Bool) (k : Fixed) → is_brace (cond b (lead.Closer k) (lead.Sign k)) ≡ false
-                kind true k = refl
-                kind false k = refl
+    only : (a b d : Bool) (o : Option (Text × Meaning))
+        → true ≡ is_brace (cond a lead.Brace (cond b lead.End (cond d lead.Other (symbol_lead c o)))) → a ≡ true
+    only true b d o e = refl
+    only false true d o e = absurd (true≢false e)
+    only false false d o e = absurd (true≢false (e ∙ symbol_only is_brace c d o refl (λ f. refl) (λ f. refl)))
 
     by : (k : First) → true ≡ is_brace (lead_in k c) → (c == 123) ≡ true
-    by first.Other e = sym_only (c == 123) (c == 43 || c == 125) (entry_of symbol_table (c ∷ [])) e
+    by first.Other e = only (c == 123) (c == 125) (c == 43) (entry_of symbol_table (c ∷ [])) e
     by first.Letter e = absurd (true≢false e)
     by first.Space e = absurd (true≢false e)
     by first.Digit e = absurd (true≢false e)
+    by first.Far e = absurd (true≢false e)
+    by first.Quote e = absurd (true≢false e)
+    by first.Tick e = absurd (true≢false e)
+    by first.Apostrophe e = absurd (true≢false e)
+    by first.Slash e = absurd (true≢false e)
+    by first.Bang e = absurd (true≢false e)
+    by first.Minus e = absurd (true≢false e)
+    by first.Hash e = absurd (true≢false e)
+
+pub end_lead : (c : ℕ) → lead.End ≡ lead_of c → (c == 125) ≡ true
+unfolding lead_of
+end_lead c e = by (first_class c) (ap is_end e)
+  where
+    only : (a b d : Bool) (o : Option (Text × Meaning))
+        → true ≡ is_end (cond a lead.Brace (cond b lead.End (cond d lead.Other (symbol_lead c o)))) → b ≡ true
+    only true b d o e = absurd (true≢false e)
+    only false true d o e = refl
+    only false false d o e = absurd (true≢false (e ∙ symbol_only is_end c d o refl (λ f. refl) (λ f. refl)))
+
+    by : (k : First) → true ≡ is_end (lead_in k c) → (c == 125) ≡ true
+    by first.Other e = only (c == 123) (c == 125) (c == 43) (entry_of symbol_table (c ∷ [])) e
+    by first.Letter e = absurd (true≢false e)
+    by first.Space e = absurd (true≢false e)
+    by first.Digit e = absurd (true≢false e)
+    by first.Far e = absurd (true≢false e)
+    by first.Quote e = absurd (true≢false e)
+    by first.Tick e = absurd (true≢false e)
+    by first.Apostrophe e = absurd (true≢false e)
+    by first.Slash e = absurd (true≢false e)
+    by first.Bang e = absurd (true≢false e)
+    by first.Minus e = absurd (true≢false e)
+    by first.Hash e = absurd (true≢false e)
+
+pub digit_lead : (c : ℕ) → lead.Digit ≡ lead_of c → first.Digit ≡ first_class c
+unfolding lead_of
+digit_lead c e = by (first_class c) (ap is_digit e)
+  where
+    by : (k : First) → true ≡ is_digit (lead_in k c) → first.Digit ≡ k
+    by first.Digit e = refl
+    by first.Other e = absurd (true≢false (e ∙ not_symbol is_digit c (c == 123) (c == 125) (c == 43)
+        (entry_of symbol_table (c ∷ [])) refl refl refl (λ f. refl) (λ f. refl)))
+    by first.Letter e = absurd (true≢false e)
+    by first.Space e = absurd (true≢false e)
     by first.Far e = absurd (true≢false e)
     by first.Quote e = absurd (true≢false e)
     by first.Tick e = absurd (true≢false e)
@@ -161,15 +217,17 @@ record Leads (c : ℕ) (f : Fixed) : Type 0 where
   class : first.Other ≡ first_class c
   entry : entry_of symbol_table (c ∷ []) ≡ Some (c ∷ [], Plain f)
   opens : (c == 123) ≡ false
-  others : (c == 43 || c == 125) ≡ false
+  ends : (c == 125) ≡ false
+  adds : (c == 43) ≡ false
 
-leads_in : (c : ℕ) (f : Fixed) (a b : Bool) (o : Option (Text × Meaning)) → first.Other ≡ first_class c
-    → (c == 123) ≡ a → (c == 43 || c == 125) ≡ b → entry_of symbol_table (c ∷ []) ≡ o
-    → Some f ≡ fixed_in (cond a lead.Brace (cond b lead.Other (symbol_lead c o))) → Leads c f
-leads_in c f true b o k x y z e = absurd cc
-leads_in c f false true o k x y z e = absurd cc
-leads_in c f false false None k x y z e = absurd cc
-leads_in c f false false (Some (s, m)) k x y z e = by (same_text s (c ∷ [])) m refl z e
+leads_in : (c : ℕ) (f : Fixed) (a b d : Bool) (o : Option (Text × Meaning)) → first.Other ≡ first_class c
+    → (c == 123) ≡ a → (c == 125) ≡ b → (c == 43) ≡ d → entry_of symbol_table (c ∷ []) ≡ o
+    → Some f ≡ fixed_in (cond a lead.Brace (cond b lead.End (cond d lead.Other (symbol_lead c o)))) → Leads c f
+leads_in c f true b d o k x y v z e = absurd cc
+leads_in c f false true d o k x y v z e = absurd cc
+leads_in c f false false true o k x y v z e = absurd cc
+leads_in c f false false false None k x y v z e = absurd cc
+leads_in c f false false false (Some (s, m)) k x y v z e = by (same_text s (c ∷ [])) m refl z e
   where
     by : (a : Bool) (m : Meaning) → same_text s (c ∷ []) ≡ a → entry_of symbol_table (c ∷ []) ≡ Some (s, m)
         → Some f ≡ fixed_in (cond a (plain_lead c m) lead.Other) → Leads c f
@@ -183,7 +241,8 @@ leads_in c f false false (Some (s, m)) k x y z e = by (same_text s (c ∷ [])) m
           class = k;
           entry = z ∙ (ap (λ s. Some (s, Plain g)) (same_is s (c ∷ []) h) ∙ ap (λ g. Some (c ∷ [], Plain g)) (sym is));
           opens = x;
-          others = y;
+          ends = y;
+          adds = v;
         }
 
         kind : (b : Bool) → Some f ≡ fixed_in (cond b (lead.Closer g) (lead.Sign g)) → Leads c f
@@ -195,8 +254,8 @@ unfolding lead_of
 leads_of c f e = by (first_class c) refl e
   where
     by : (k : First) → first_class c ≡ k → Some f ≡ fixed_in (lead_in k c) → Leads c f
-    by first.Other k e = leads_in c f (c == 123) (c == 43 || c == 125) (entry_of symbol_table (c ∷ [])) (sym k) refl refl
-        refl e
+    by first.Other k e = leads_in c f (c == 123) (c == 125) (c == 43) (entry_of symbol_table (c ∷ [])) (sym k) refl
+        refl refl refl e
     by first.Letter k e = absurd cc
     by first.Space k e = absurd cc
     by first.Digit k e = absurd cc
@@ -213,12 +272,13 @@ abbrev is_closing : Lead → Bool
 is_closing (lead.Closer f) = true
 is_closing l = false
 
-closing_in : (c : ℕ) (a b : Bool) (o : Option (Text × Meaning))
-    → true ≡ is_closing (cond a lead.Brace (cond b lead.Other (symbol_lead c o))) → is_closer c ≡ true
-closing_in c true b o e = absurd (true≢false e)
-closing_in c false true o e = absurd (true≢false e)
-closing_in c false false None e = absurd (true≢false e)
-closing_in c false false (Some (s, m)) e = by (same_text s (c ∷ [])) m e
+closing_in : (c : ℕ) (a b d : Bool) (o : Option (Text × Meaning))
+    → true ≡ is_closing (cond a lead.Brace (cond b lead.End (cond d lead.Other (symbol_lead c o)))) → is_closer c ≡ true
+closing_in c true b d o e = absurd (true≢false e)
+closing_in c false true d o e = absurd (true≢false e)
+closing_in c false false true o e = absurd (true≢false e)
+closing_in c false false false None e = absurd (true≢false e)
+closing_in c false false false (Some (s, m)) e = by (same_text s (c ∷ [])) m e
   where
     by : (a : Bool) (m : Meaning) → true ≡ is_closing (cond a (plain_lead c m) lead.Other) → is_closer c ≡ true
     by false m e = absurd (true≢false e)
@@ -235,7 +295,7 @@ unfolding lead_of
 closing_of c e = by (first_class c) e
   where
     by : (k : First) → true ≡ is_closing (lead_in k c) → is_closer c ≡ true
-    by first.Other e = closing_in c (c == 123) (c == 43 || c == 125) (entry_of symbol_table (c ∷ [])) e
+    by first.Other e = closing_in c (c == 123) (c == 125) (c == 43) (entry_of symbol_table (c ∷ [])) e
     by first.Letter e = absurd (true≢false e)
     by first.Space e = absurd (true≢false e)
     by first.Digit e = absurd (true≢false e)
@@ -265,7 +325,7 @@ alone_of : (c : ℕ) (t : Text) (f : Fixed) → goes_on c t ≡ false → Leads 
 alone_of c t f g l = record {
   class = l.class;
   cut = lone_cut c t f (other_hash c l.class) g l.entry;
-  sign = rw ((or_parts (c == 43) (c == 125) l.others).0, no_minus c l.class) refl;
+  sign = rw (l.adds, no_minus c l.class) refl;
 }
 
 pub closer_alone : (c : ℕ) (t : Text) (f : Fixed) → lead.Closer f ≡ lead_of c → IsAlone c t f
@@ -280,7 +340,7 @@ sign_alone c t f g e = alone_of c t f (by (is_closer c) (begins is_second t) g) 
 
 -- it changes no braces
 pub keeps_braces : (c : ℕ) (f : Fixed) → Some f ≡ fixed_in (lead_of c) → brace_of_symbol (c ∷ []) ≡ brace.Stays
-keeps_braces c f e = let l = leads_of c f e in rw (l.opens, (or_parts (c == 43) (c == 125) l.others).1) (by (c == 35))
+keeps_braces c f e = let l = leads_of c f e in rw (l.opens, l.ends) (by (c == 35))
   where
     by : (b : Bool) → cond (b && false) brace.Opens brace.Stays ≡ brace.Stays
     by true = refl
@@ -294,3 +354,12 @@ brace_alone t = record { class = refl; cut = lone_cut 123 t fixed.LeftBrace refl
 pub brace_begins : (t : Text) → (slice_index t 0 == 123) ≡ true → begins (λ c. c == 123) t ≡ true
 brace_begins [] h = absurd (true≢false (sym h))
 brace_begins (c ∷ t) h = h
+
+-- a `}`
+pub end_alone : (t : Text) → IsAlone 125 t fixed.RightBrace
+unfolding symbol_table
+end_alone t = record { class = refl; cut = lone_cut 125 t fixed.RightBrace refl refl refl; sign = refl }
+
+pub end_begins : (t : Text) → (slice_index t 0 == 125) ≡ true → begins (λ c. c == 125) t ≡ true
+end_begins [] h = absurd (true≢false (sym h))
+end_begins (c ∷ t) h = h

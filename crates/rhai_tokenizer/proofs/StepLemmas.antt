@@ -1,10 +1,11 @@
 -- One turn of the reading of a text, by what its code knows of the piece.
-use Rattle.std.proofs.Common.{◌≡◌, ℕ, ◌+◌, ◌-◌, ◌≤◌, Bool, true, false, ◌||◌, [], ◌∷◌, Option, None, cond, codes, drop, take, length, reverse, IsUtf8, refl, sym, ap, ◌∙◌, subst, arith, true≢false}
+use Rattle.std.proofs.Common.{◌≡◌, ℕ, ◌+◌, ◌-◌, ◌≤◌, Bool, true, false, ◌||◌, List, [], ◌∷◌, Option, Some, None, cond, codes, drop, take, length, reverse, IsUtf8, refl, sym, ap, ◌∙◌, subst, arith, true≢false}
 use Rattle.std.proofs.Common.{◌&&◌, ◌==◌}
 use Rattle.std.proofs.lemmas.Bool.{eqb-true, or_parts}
 use Rattle.std.proofs.lemmas.List.{append-nil, length-take-le, take_rest}
 use Rattle.std.specs.Prelude.{IfSome, option_map, slice_index}
-use Rattle.std.specs.List.{concat, prefix_len}
+use Rattle.std.specs.List.{concat, prefix_len, slice_get}
+use mathlib.Core.List.{reverse_aux}
 use Rattle.rhai_lower.specs.Entries.{token_may_be_delivered}
 use Rattle.rhai_lower.specs.Lexemes.{Lexeme, Sign, lexeme}
 use Rattle.rhai_lower.specs.Names.{is_word}
@@ -34,7 +35,7 @@ use Rattle.rhai_tokenizer.specs.Places.{past}
 use Rattle.rhai_tokenizer.specs.Runs.{run_from}
 use Rattle.rhai_tokenizer.specs.Turns.{IsFront, IsIn, IsTurn, Joins, before_of, due, found_of, place_of}
 use Rattle.rhai_tokenizer.proofs.FrontLemmas.{IsCut, front_is, is_cut, known_cut, token_found}
-use Rattle.rhai_tokenizer.proofs.LeadLemmas.{brace_alone}
+use Rattle.rhai_tokenizer.proofs.LeadLemmas.{brace_alone, end_alone}
 use Rattle.rhai_tokenizer.proofs.TurnLemmas.{before_after}
 
 -- what the code leaves of the braces and their state, where a piece does this to them
@@ -219,3 +220,28 @@ opening [] h = absurd (true≢false (sym h))
 opening (c ∷ t) h =
     let at : Opening (123 ∷ t) = record { some = refl; alone = brace_alone t; opens = refl } in
     subst (λ (c : ℕ). Opening (c ∷ t)) (sym (eqb-true c 123 h)) at
+
+-- the front of a text that begins with `}`
+pub record Closing (t : Text) : Type 0 where
+  pub some : is_empty t ≡ false
+  pub alone : IsAlone (slice_index t 0) (drop 1 t) fixed.RightBrace
+  pub closes : brace.Closes ≡ brace_of_symbol (take 1 t)
+
+pub closing : (t : Text) → begins (λ c. c == 125) t ≡ true → Closing t
+closing [] h = absurd (true≢false (sym h))
+closing (c ∷ t) h =
+    let at : Closing (125 ∷ t) = record { some = refl; alone = end_alone t; closes = refl } in
+    subst (λ (c : ℕ). Closing (c ∷ t)) (sym (eqb-true c 125 h)) at
+
+-- what the innermost brace says of a text
+pub last_text : (xs : List Bool) (b : Bool) → slice_get xs (length xs - 1) ≡ Some b
+    → b ≡ text_after brace.Closes (reverse xs)
+last_text [] b h = absurd cc
+last_text (x ∷ xs) b h =
+    let e : length xs ≡ length (x ∷ xs) - 1 = omega arith in
+    by x xs [] (ap (slice_get (x ∷ xs)) e ∙ h)
+  where
+    by : (x : Bool) (xs ys : List Bool) → slice_get (x ∷ xs) (length xs) ≡ Some b
+        → b ≡ text_after brace.Closes (reverse_aux (x ∷ xs) ys)
+    by x [] ys h = cc
+    by x (y ∷ xs) ys h = by y xs (x ∷ ys) h

@@ -1,6 +1,6 @@
 //! Classes of bytes: what a byte begins, and what it continues.
 
-ghost use Rattle.std.specs.Prelude.{◌≡◌, ◌≤◌, length};
+ghost use Rattle.std.specs.Prelude.{◌≡◌, ◌<◌, ◌≤◌, false, length, true};
 ghost use Rattle.rhai_lower.specs.Names.{is_word};
 ghost use Rattle.std.specs.Char.{digit_value};
 ghost use Rattle.rhai_tokenizer.specs.Bytes.{base_of, is_digit_after};
@@ -65,8 +65,12 @@ pub enum Lead {
     Word,
     /// White space.
     Blank,
+    /// An integer.
+    Digit,
     /// A `{`.
     Brace,
+    /// A `}`.
+    End,
     /// A symbol of this byte alone.
     Closer(Fixed),
     /// A symbol of this byte alone, unless the next byte continues it.
@@ -125,16 +129,16 @@ static LEADS: [Lead; 256] = [
     Lead::Other,
     Lead::Sign(Fixed::Period),
     Lead::Other,
-    Lead::Other,
-    Lead::Other,
-    Lead::Other,
-    Lead::Other,
-    Lead::Other,
-    Lead::Other,
-    Lead::Other,
-    Lead::Other,
-    Lead::Other,
-    Lead::Other,
+    Lead::Digit,
+    Lead::Digit,
+    Lead::Digit,
+    Lead::Digit,
+    Lead::Digit,
+    Lead::Digit,
+    Lead::Digit,
+    Lead::Digit,
+    Lead::Digit,
+    Lead::Digit,
     Lead::Sign(Fixed::Colon),
     Lead::Closer(Fixed::SemiColon),
     Lead::Sign(Fixed::LessThan),
@@ -202,7 +206,7 @@ static LEADS: [Lead; 256] = [
     Lead::Word,
     Lead::Brace,
     Lead::Sign(Fixed::Pipe),
-    Lead::Other,
+    Lead::End,
     Lead::Other,
     Lead::Other,
     Lead::Other,
@@ -406,6 +410,14 @@ pub fn is_space(b: u8) -> bool
     ensures { result ≡ spec.is_space b }
 {
     b == b' ' || (9 <= b && b <= 13)
+}
+
+/// Whether a byte begins or continues a piece that is no white space, for sure.
+#[inline(always)]
+pub fn is_usual(b: u8) -> bool
+    ensures { result ≡ true → (spec.is_space b ≡ false) × (b < 128) }
+{
+    bytes()[b as usize] != 0
 }
 
 // Whether a byte takes a column, and stands for itself in a string.

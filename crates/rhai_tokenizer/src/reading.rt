@@ -10,7 +10,7 @@ ghost use Rattle.rhai_tokenizer.specs.Bytes.{begins};
 ghost use Rattle.rhai_tokenizer.specs.Cutting.{first_class};
 ghost use Rattle.rhai_tokenizer.specs.Cutting as spec;
 ghost use Rattle.rhai_tokenizer.specs.CuttingMeanings.{IsAlone, is_plain};
-ghost use Rattle.rhai_tokenizer.specs.Meanings.{at_start, brace_of_symbol, operand_then};
+ghost use Rattle.rhai_tokenizer.specs.Meanings.{at_start, brace_of_symbol, operand_then, text_after};
 ghost use Rattle.rhai_tokenizer.specs.Places.{past};
 ghost use Rattle.rhai_tokenizer.specs.Turns.{IsFront, IsIn, IsPlace, IsQuiet, IsRead, IsReady, IsTurn, Joins, before_of, due};
 ghost use Rattle.rhai_tokenizer.specs.Turns.{found_of};
@@ -240,13 +240,15 @@ fn word(reading: &mut Reading, rest: &str) -> Result<usize, AllocError>
     Ok(len)
 }
 
-// An integer.
+// An integer in the base ten. Gives its length, or 0 where it is another one.
 #[inline(never)]
-fn number(reading: &mut Reading, limits: Limits, rest: &str) -> Result<usize, AllocError>
+fn number(reading: &mut Reading, rest: &str) -> Result<usize, AllocError>
     requires ready { IsReady reading.old rest.now }
     requires quiet { IsQuiet reading.old }
     requires class { First.Digit ≡ first_class (slice_index rest.now 0) }
-    ensures { IfOk result (λ n. IsTurn limits reading.old reading.new rest.now n) }
+    ensures turn { IfOk result (λ n. 0 < n → (limits : Limits) → IsTurn limits reading.old reading.new rest.now n) }
+    ensures quiet { IfOk result (λ n. IsQuiet reading.new) }
+    ensures none { IfOk result (λ n. n ≡ 0 → reading.new ≡ reading.old) }
 {
     let bytes = rest.as_bytes();
     let (kind, len) = number_piece(bytes[0], &bytes[1..]);
@@ -257,7 +259,7 @@ fn number(reading: &mut Reading, limits: Limits, rest: &str) -> Result<usize, Al
             take(reading, token, len)?;
             Ok(len)
         }
-        _ => any(reading, limits, rest),
+        _ => Ok(0),
     }
 }
 
@@ -327,6 +329,37 @@ fn brace(reading: &mut Reading, rest: &str) -> Result<usize, AllocError>
     Ok(1)
 }
 
+// Whether a text goes on after a `}`.
+#[inline(always)]
+fn ends_block(braces: &[bool]) -> bool
+    ensures { result ≡ text_after Brace.Closes (reverse braces.now) }
+{
+    match braces.last() {
+        Some(text) => *text,
+        None => false,
+    }
+}
+
+// A `}` after which no text goes on. Gives its length, or none where one does.
+#[inline(always)]
+fn end(reading: &mut Reading, rest: &str) -> Result<Option<usize>, AllocError>
+    requires ready { IsReady reading.old rest.now }
+    requires quiet { IsQuiet reading.old }
+    requires brace { begins (λ c. c == 125) rest.now ≡ true }
+    ensures turn { IfOk result (λ o. IfSome o (λ n. (limits : Limits)
+        → IsTurn limits reading.old reading.new rest.now n)) }
+    ensures quiet { IfOk result (λ o. IsQuiet reading.new) }
+    ensures none { IfOk result (λ o. o ≡ None → reading.new ≡ reading.old) }
+{
+    let _rest = rest;
+    if ends_block(&reading.braces) {
+        return Ok(None);
+    }
+    take(reading, Token::RightBrace, 1)?;
+    reading.in_text = follow(&mut reading.braces, Brace::Closes, false)?;
+    Ok(Some(1))
+}
+
 // Whether a string ends here, with no further mark.
 #[inline(always)]
 fn ends_string(z: &[u8]) -> bool
@@ -367,15 +400,14 @@ fn other(reading: &mut Reading, limits: Limits, rest: &str) -> Result<usize, All
     ensures { IfOk result (λ n. IsTurn limits reading.old reading.new rest.now n) }
 {
     match first_class(rest.as_bytes()[0]) {
-        First::Digit => number(reading, limits, rest),
         First::Other => symbol(reading, limits, rest),
         First::Quote => text_piece(reading, limits, rest),
         _ => any(reading, limits, rest),
     }
 }
 
-// Reads the piece at the front of a text, where it is white space, a word, or a symbol of one byte that is neither a
-// sign nor closes a brace. Gives its length, or none.
+// Reads the piece at the front of a text, where it is white space, a word, an integer in the base ten, or a symbol of
+// one byte that is no sign, and no text goes on after it. Gives its length, or none.
 #[inline(always)]
 fn usual(reading: &mut Reading, rest: &str) -> Result<Option<usize>, AllocError>
     requires ready { IsReady reading.old rest.now }
@@ -390,7 +422,12 @@ fn usual(reading: &mut Reading, rest: &str) -> Result<Option<usize>, AllocError>
     match lead_of(first) {
         Lead::Word => Ok(Some(word(reading, rest)?)),
         Lead::Blank => Ok(Some(blank(reading, rest))),
+        Lead::Digit => match number(reading, rest)? {
+            0 => Ok(None),
+            len => Ok(Some(len)),
+        },
         Lead::Brace => Ok(Some(brace(reading, rest)?)),
+        Lead::End => end(reading, rest),
         lead => match lone_symbol(first, lead, &bytes[1..]) {
             Some(fixed) => Ok(Some(lone(reading, rest, fixed)?)),
             None => Ok(None),
