@@ -1,4 +1,4 @@
--- Marks: bytes of a file in which a script begins after its start, with the line and column of the first one.
+-- Marks: bytes of a file, with the line and column of the first one. A script may begin after the start of its file.
 use Rattle.std.specs.Prelude.{◌≡◌, ◌+◌, ◌-◌, ◌^◌, ◌==◌, ℕ, Bool, false, Option, Some, length, min, refl}
 use Rattle.std.specs.Prelude.{codes, slice_index_or, slice_range}
 use Rattle.std.specs.Rc.{rc_str_bytes}

@@ -1,4 +1,4 @@
--- What a report says of a refusal, but for what may help: why it is one, and which bytes of the file are marked.
+-- What a report says of a refusal, apart from what may help.
 use Rattle.std.specs.Prelude.{◌≡◌, ◌==◌, ◌&&◌, ◌++◌, ℕ, Bool, false, Option, Some, None, IsSomeAnd, List, MatchOption}
 use Rattle.std.specs.Prelude.{[], ◌∷◌, codes, length, option_map, refl, string_bytes}
 use Rattle.std.specs.Bool.{MatchBool}
