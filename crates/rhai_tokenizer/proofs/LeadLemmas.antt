@@ -1,5 +1,5 @@
 -- What begins with a byte, as the table of leads says it.
-use Rattle.std.proofs.Common.{◌≡◌, ℕ, zero, suc, ◌+◌, ◌<◌, Bool, true, false, cond, not, ◌&&◌, ◌||◌, ◌==◌, List, [], ◌∷◌, map, get_or, Option, Some, None, refl, sym, ap, ◌∙◌, arith, true≢false, take, drop}
+use Rattle.std.proofs.Common.{◌≡◌, ℕ, zero, suc, ◌+◌, ◌<◌, ◌≤◌, length, Bool, true, false, cond, not, ◌&&◌, ◌||◌, ◌==◌, List, [], ◌∷◌, map, get_or, Option, Some, None, refl, sym, ap, ◌∙◌, subst, arith, true≢false, take, drop}
 use Rattle.std.proofs.lemmas.Bool.{eqb-true}
 use Rattle.std.specs.Prelude.{slice_index}
 use Rattle.rhai_lower.specs.Texts.{Text, same_text}
@@ -8,13 +8,15 @@ use Rattle.rhai_tokenizer.specs.declared.class.First.{First}
 use Rattle.rhai_tokenizer.specs.declared.class.First.TheVariants as first
 use Rattle.rhai_tokenizer.specs.declared.class.Lead.{Lead}
 use Rattle.rhai_tokenizer.specs.declared.class.Lead.TheVariants as lead
+use Rattle.rhai_tokenizer.specs.declared.lexer.Kind.{Kind}
+use Rattle.rhai_tokenizer.specs.declared.lexer.Kind.TheVariants as kind
 use Rattle.rhai_tokenizer.specs.declared.table.Fixed.{Fixed}
 use Rattle.rhai_tokenizer.specs.declared.table.Fixed.TheVariants as fixed
 use Rattle.rhai_tokenizer.specs.declared.table.Meaning.{Meaning}
 use Rattle.rhai_tokenizer.specs.declared.table.Meaning.TheVariants.{Plain, Held, Refused}
-use Rattle.rhai_tokenizer.specs.Bytes.{begins}
-use Rattle.rhai_tokenizer.specs.Cutting.{entry_of, first_class, goes_on, is_closer, is_second, lead_in, lead_of, lead_table, plain_lead, symbol_lead, symbol_table}
-use Rattle.rhai_tokenizer.specs.CuttingMeanings.{IsAlone, is_sign}
+use Rattle.rhai_tokenizer.specs.Bytes.{begins, begins_with}
+use Rattle.rhai_tokenizer.specs.Cutting.{cut_entry, entry_cut, entry_of, first_class, goes_on, is_closer, is_second, lead_in, lead_of, lead_table, plain_lead, symbol_lead, symbol_table}
+use Rattle.rhai_tokenizer.specs.CuttingMeanings.{IsAlone, IsPair, is_sign}
 use Rattle.rhai_tokenizer.specs.Meanings.{brace_of_symbol}
 use Rattle.rhai_tokenizer.proofs.ByteLemmas.{same_is}
 use Rattle.rhai_tokenizer.proofs.ClassLemmas.{other_hash}
@@ -363,3 +365,33 @@ end_alone t = record { class = refl; cut = lone_cut 125 t fixed.RightBrace refl 
 pub end_begins : (t : Text) → (slice_index t 0 == 125) ≡ true → begins (λ c. c == 125) t ≡ true
 end_begins [] h = absurd (true≢false (sym h))
 end_begins (c ∷ t) h = h
+
+-- ---- symbols of two bytes
+
+pub unit_pair : (t : Text) → IsPair 40 (41 ∷ t) fixed.Unit
+unfolding symbol_table
+unit_pair t = record { class = refl; cut = refl; minus = refl; plus = refl; brace = refl }
+
+pub arrow_pair : (t : Text) → IsPair 61 (62 ∷ t) fixed.DoubleArrow
+unfolding symbol_table
+arrow_pair t = record { class = refl; cut = refl; minus = refl; plus = refl; brace = refl }
+
+pub colon_pair : (t : Text) → begins_with (60 ∷ []) t ≡ false → IsPair 58 (58 ∷ t) fixed.DoubleColon
+unfolding symbol_table
+colon_pair [] h = record { class = refl; cut = refl; minus = refl; plus = refl; brace = refl }
+colon_pair (c ∷ t) h = record { class = refl; cut = by (c == 60 && true) h; minus = refl; plus = refl; brace = refl }
+  where
+    by : (b : Bool) → b ≡ false → ◌≡◌ {A = Kind × ℕ} (kind.Symbol (Plain fixed.DoubleColon), 2)
+        (entry_cut (cut_entry (cond b (Some (58 ∷ 58 ∷ 60 ∷ [], Refused 6)) (Some (58 ∷ 58 ∷ [], Plain fixed.DoubleColon))))
+        (58 ∷ c ∷ t))
+    by true h = absurd (true≢false h)
+    by false h = refl
+
+-- a text from its first byte
+pub from_first : (z : Text) (d : ℕ) → 1 ≤ length z → get_or z 0 0 ≡ d → z ≡ d ∷ drop 1 z
+from_first [] d h e = absurd (omega arith)
+from_first (c ∷ z) d h e = ap (λ c. c ∷ z) e
+
+pub pair_is : (a b x y : ℕ) (f : Fixed) (t : Text) → a ≡ x → b ≡ y → IsPair x (y ∷ t) f → IsPair a (b ∷ t) f
+pair_is a b x y f t e g p =
+    subst (λ (a : ℕ). IsPair a (b ∷ t) f) (sym e) (subst (λ (b : ℕ). IsPair x (b ∷ t) f) (sym g) p)

@@ -28,8 +28,9 @@ use Rattle.rhai_tokenizer.specs.declared.table.Meaning.{Meaning}
 use Rattle.rhai_tokenizer.specs.declared.table.Meaning.TheVariants.{Plain}
 use Rattle.rhai_tokenizer.specs.declared.tokens.Tokens.{Tokens}
 use Rattle.rhai_tokenizer.specs.Bytes.{begins, blanks, is_empty}
+use Rattle.rhai_tokenizer.specs.Fixed.{token_of}
 use Rattle.rhai_tokenizer.specs.Cutting.{first_class, next_at, piece_at, number_cut, sign_cut}
-use Rattle.rhai_tokenizer.specs.CuttingMeanings.{IsAlone, cut_brace, cut_symbol, cut_token, is_sign, meaning_of}
+use Rattle.rhai_tokenizer.specs.CuttingMeanings.{IsAlone, IsPair, cut_brace, cut_symbol, cut_token, is_sign, meaning_of}
 use Rattle.rhai_tokenizer.specs.Meanings.{Found, brace_of_symbol, braces_after, opens_after, operand_then, text_after}
 use Rattle.rhai_tokenizer.specs.Places.{past}
 use Rattle.rhai_tokenizer.specs.Runs.{run_from}
@@ -245,3 +246,43 @@ last_text (x ∷ xs) b h =
         → b ≡ text_after brace.Closes (reverse_aux (x ∷ xs) ys)
     by x [] ys h = cc
     by x (y ∷ xs) ys h = by y xs (x ∷ ys) h
+
+-- a symbol of two bytes
+pub pair_piece : (limits : Limits) (o : Bool) (place : Place) (t : Text) (f : Fixed) → is_empty t ≡ false
+    → IsPair (slice_index t 0) (drop 1 t) f → IsCut limits o place t (kind.Symbol (Plain f)) 2
+pair_piece limits o place t f some is =
+    sign_piece limits o place t t (kind.Symbol (Plain f)) 2 some is.class refl
+    (is.cut ∙ ap (sign_cut (slice_index t 0)) (sym (take_rest t 1)))
+
+pub pair_means : (o : Bool) (f : Fixed) (t : Text) → is_empty t ≡ false → IsPair (slice_index t 0) (drop 1 t) f
+    → lexeme (token_of f) ≡ cut_symbol o (Plain f) (take 2 t)
+pair_means o f [] some is = absurd (true≢false some)
+pair_means o f (c ∷ t) some is = rw (is.minus, is.plus) (by o)
+  where
+    by : (o : Bool) → lexeme (token_of f)
+        ≡ cond (o && false) (Sign token.UnaryMinus) (cond (o && false) (Sign token.UnaryPlus) (lexeme (token_of f)))
+    by true = refl
+    by false = refl
+
+pub pair_braces : (old new : Reading) (t : Text) (f : Fixed) → is_empty t ≡ false
+    → IsPair (slice_index t 0) (drop 1 t) f → new.in_text ≡ false
+    → reverse new.braces.items ≡ reverse old.braces.items → new.opens ≡ false
+    → Braces old new (brace_of_symbol (take 2 t))
+pair_braces old new [] f some is i bs o = absurd (true≢false some)
+pair_braces old new (c ∷ t) f some is i bs o =
+    let stays : Braces old new brace.Stays = record { in_text = i; braces = bs; opens = o } in
+    subst (λ (k : Brace). Braces old new k) (sym is.brace) stays
+
+-- what a `{` leaves of the braces
+pub block_braces : (old mid new : Reading) (k : Brace) (text : Text) → mid.braces ≡ old.braces → mid.opens ≡ old.opens
+    → brace.Opens ≡ k → k ≡ brace_of_symbol text → new.in_text ≡ text_after k (reverse mid.braces.items)
+    → reverse new.braces.items ≡ braces_after k mid.opens (reverse mid.braces.items) → new.opens ≡ false
+    → Braces old new (brace_of_symbol text)
+block_braces old mid new k text bs os is ks i b s =
+    let opens : Braces old new k = record {
+      in_text = i ∙ ap (λ b. text_after k (reverse b.items)) bs;
+      braces = b ∙ (ap (λ b. braces_after k mid.opens (reverse b.items)) bs
+          ∙ ap (λ o. braces_after k o (reverse old.braces.items)) os);
+      opens = s ∙ ap opens_after is;
+    } in
+    subst (λ (k : Brace). Braces old new k) ks opens

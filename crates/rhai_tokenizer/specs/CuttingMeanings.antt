@@ -1,7 +1,7 @@
 -- The token of a piece by its kind and its bytes. No definition: it stands between the code and the forms.
 use Rattle.std.specs.Prelude.{ℕ, Bool, true, false, not, ◌&&◌, ◌||◌, ◌==◌, nat_le, nat_lt, ◌∷◌}
 use Rattle.std.specs.Prelude.{[], ◌+◌, ◌≡◌}
-use Rattle.std.specs.Prelude.{Option, Some, None, codes, drop, length, slice_index, if◌then◌else◌}
+use Rattle.std.specs.Prelude.{Option, Some, None, codes, drop, take, length, slice_index, if◌then◌else◌}
 use Rattle.std.specs.List.{list_all}
 use Rattle.rhai_lower.specs.Texts.{Text, same_text}
 use Rattle.rhai_lower.specs.Names.{is_word}
@@ -77,6 +77,15 @@ pub record IsAlone (c : ℕ) (t : Text) (f : Fixed) : Type 0 where
   pub class : first.Other ≡ first_class c
   pub cut : ◌≡◌ {A = Kind × ℕ} (kind.Symbol (Plain f), 1) (sign_cut c t)
   pub sign : is_sign c ≡ false
+
+-- the symbol of two bytes with which such a text begins is this token, also where an operand begins, and it changes no
+-- braces
+pub record IsPair (c : ℕ) (t : Text) (f : Fixed) : Type 0 where
+  pub class : first.Other ≡ first_class c
+  pub cut : ◌≡◌ {A = Kind × ℕ} (kind.Symbol (Plain f), 2) (sign_cut c t)
+  pub minus : same_text (take 2 (c ∷ t)) (codes "-") ≡ false
+  pub plus : same_text (take 2 (c ∷ t)) (codes "+") ≡ false
+  pub brace : brace_of_symbol (take 2 (c ∷ t)) ≡ brace.Stays
 
 abbrev pub cut_integer : (is_negative : Bool) → Text → Lexeme
 cut_integer true t = integer_or (45 ∷ digits_of t) (integer_value true t)

@@ -9,7 +9,7 @@ ghost use Rattle.rhai_lower.specs.Texts.{Text};
 ghost use Rattle.rhai_tokenizer.specs.Bytes.{begins};
 ghost use Rattle.rhai_tokenizer.specs.Cutting.{first_class};
 ghost use Rattle.rhai_tokenizer.specs.Cutting as spec;
-ghost use Rattle.rhai_tokenizer.specs.CuttingMeanings.{IsAlone, is_plain};
+ghost use Rattle.rhai_tokenizer.specs.CuttingMeanings.{IsAlone, IsPair, is_plain};
 ghost use Rattle.rhai_tokenizer.specs.Meanings.{at_start, brace_of_symbol, operand_then, text_after};
 ghost use Rattle.rhai_tokenizer.specs.Places.{past};
 ghost use Rattle.rhai_tokenizer.specs.Turns.{IsFront, IsIn, IsPlace, IsQuiet, IsRead, IsReady, IsTurn, Joins, before_of, due};
@@ -20,9 +20,9 @@ use crate::blanks::blanks_in;
 use crate::braces::{Brace, follow, opens_after, symbol_brace};
 use crate::class::{Class, First, Lead, first_class, lead_of};
 use crate::front::{Front, Tools, front_of};
-use crate::lexer::{Kind, lone_symbol, number_piece, run_len, sign};
+use crate::lexer::{Kind, begins, number_piece, pair_symbol, run_len, sign};
 use crate::limits::Limits;
-use crate::meaning::{fixed_symbol, integer_token, operand_after, word_token};
+use crate::meaning::{fixed_symbol, integer_token, operand_after, usual_word};
 use crate::place::{FIRST_LINE, Line, Place, line_of, place_in, position};
 use crate::string_token::string_token;
 use crate::table::{Fixed, Meaning, fixed_token};
@@ -224,20 +224,26 @@ fn take(reading: &mut Reading, token: Token, len: usize) -> Result<(), AllocErro
     Ok(())
 }
 
-// A word.
+// A word. Gives its length, or none where it is refused.
 #[inline(always)]
-fn word(reading: &mut Reading, rest: &str) -> Result<usize, AllocError>
+fn word(reading: &mut Reading, rest: &str) -> Result<Option<usize>, AllocError>
     requires ready { IsReady reading.old rest.now }
     requires quiet { IsQuiet reading.old }
     requires class { First.Letter ≡ first_class (slice_index rest.now 0) }
-    ensures turn { IfOk result (λ n. (limits : Limits) → IsTurn limits reading.old reading.new rest.now n) }
-    ensures quiet { IfOk result (λ n. IsQuiet reading.new) }
+    ensures turn { IfOk result (λ o. IfSome o (λ n. (limits : Limits)
+        → IsTurn limits reading.old reading.new rest.now n)) }
+    ensures quiet { IfOk result (λ o. IsQuiet reading.new) }
+    ensures none { IfOk result (λ o. o ≡ None → reading.new ≡ reading.old) }
 {
     let len = 1 + run_len(Class::Word, &rest.as_bytes()[1..]);
     let (text, _) = rest.split_at(len);
-    let token = word_token(reading.tools.alloc, &mut reading.tools.names, text)?;
-    take(reading, token, len)?;
-    Ok(len)
+    match usual_word(reading.tools.alloc, &mut reading.tools.names, text)? {
+        Some(token) => {
+            take(reading, token, len)?;
+            Ok(Some(len))
+        }
+        None => Ok(None),
+    }
 }
 
 // An integer in the base ten. Gives its length, or 0 where it is another one.
@@ -312,6 +318,20 @@ fn lone(reading: &mut Reading, rest: &str, fixed: Fixed) -> Result<usize, AllocE
     let _rest = rest;
     take(reading, fixed_token(fixed), 1)?;
     Ok(1)
+}
+
+// A symbol of two bytes that is no sign and changes no braces.
+#[inline(always)]
+fn pair(reading: &mut Reading, rest: &str, fixed: Fixed) -> Result<usize, AllocError>
+    requires ready { IsReady reading.old rest.now }
+    requires quiet { IsQuiet reading.old }
+    requires pair { IsPair (slice_index rest.now 0) (drop 1 rest.now) fixed }
+    ensures turn { IfOk result (λ n. (limits : Limits) → IsTurn limits reading.old reading.new rest.now n) }
+    ensures quiet { IfOk result (λ n. IsQuiet reading.new) }
+{
+    let _rest = rest;
+    take(reading, fixed_token(fixed), 2)?;
+    Ok(2)
 }
 
 // A `{`.
@@ -406,8 +426,8 @@ fn other(reading: &mut Reading, limits: Limits, rest: &str) -> Result<usize, All
     }
 }
 
-// Reads the piece at the front of a text, where it is white space, a word, an integer in the base ten, or a symbol of
-// one byte that is no sign, and no text goes on after it. Gives its length, or none.
+// Reads the piece at the front of a text, where it is white space, a word, an integer in the base ten, or a symbol that
+// is met often, and no text goes on after it. Gives its length, or none.
 #[inline(always)]
 fn usual(reading: &mut Reading, rest: &str) -> Result<Option<usize>, AllocError>
     requires ready { IsReady reading.old rest.now }
@@ -420,7 +440,7 @@ fn usual(reading: &mut Reading, rest: &str) -> Result<Option<usize>, AllocError>
     let bytes = rest.as_bytes();
     let first = bytes[0];
     match lead_of(first) {
-        Lead::Word => Ok(Some(word(reading, rest)?)),
+        Lead::Word => word(reading, rest),
         Lead::Blank => Ok(Some(blank(reading, rest))),
         Lead::Digit => match number(reading, rest)? {
             0 => Ok(None),
@@ -428,10 +448,15 @@ fn usual(reading: &mut Reading, rest: &str) -> Result<Option<usize>, AllocError>
         },
         Lead::Brace => Ok(Some(brace(reading, rest)?)),
         Lead::End => end(reading, rest),
-        lead => match lone_symbol(first, lead, &bytes[1..]) {
-            Some(fixed) => Ok(Some(lone(reading, rest, fixed)?)),
+        Lead::Closer(fixed) => Ok(Some(lone(reading, rest, fixed)?)),
+        Lead::Sign(fixed) if !begins(Class::Second, &bytes[1..]) => {
+            Ok(Some(lone(reading, rest, fixed)?))
+        }
+        Lead::Sign(_) => match pair_symbol(first, &bytes[1..]) {
+            Some(fixed) => Ok(Some(pair(reading, rest, fixed)?)),
             None => Ok(None),
         },
+        Lead::Other => Ok(None),
     }
 }
 
@@ -466,6 +491,35 @@ fn is_quiet(reading: &Reading) -> bool
     !(reading.in_text || (reading.opens || reading.is_hashed))
 }
 
+// Whether a block begins, which may be one of an interpolation.
+#[inline(always)]
+fn begins_block(reading: &Reading, rest: &str) -> bool
+    ensures code { result ≡ true → reading.now.in_text ≡ false }
+    ensures hash { result ≡ true → reading.now.is_hashed ≡ false }
+    ensures brace { result ≡ true → begins (λ c. c == 123) rest.now ≡ true }
+{
+    match rest.as_bytes() {
+        [first, ..] => *first == b'{' && !(reading.in_text || reading.is_hashed),
+        [] => false,
+    }
+}
+
+// The `{` of a block, which may be one of an interpolation.
+#[inline(always)]
+fn block(reading: &mut Reading, rest: &str) -> Result<usize, AllocError>
+    requires ready { IsReady reading.old rest.now }
+    requires code { reading.old.in_text ≡ false }
+    requires hash { reading.old.is_hashed ≡ false }
+    requires brace { begins (λ c. c == 123) rest.now ≡ true }
+    ensures { IfOk result (λ n. (limits : Limits) → IsTurn limits reading.old reading.new rest.now n) }
+{
+    let _rest = rest;
+    take(reading, Token::LeftBrace, 1)?;
+    reading.in_text = follow(&mut reading.braces, Brace::Opens, reading.opens)?;
+    reading.opens = false;
+    Ok(1)
+}
+
 // Reads the piece at the front of a text, where one is due. Gives its length.
 #[inline(always)]
 fn piece(reading: &mut Reading, limits: Limits, rest: &str) -> Result<usize, AllocError>
@@ -474,6 +528,8 @@ fn piece(reading: &mut Reading, limits: Limits, rest: &str) -> Result<usize, All
 {
     if is_quiet(reading) {
         other(reading, limits, rest)
+    } else if begins_block(reading, rest) {
+        block(reading, rest)
     } else {
         any(reading, limits, rest)
     }
