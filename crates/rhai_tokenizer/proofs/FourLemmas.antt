@@ -1,5 +1,5 @@
 -- Runs of bytes of a class, four bytes at a time.
-use Rattle.std.proofs.Common.{◌≡◌, ℕ, ◌+◌, ◌<◌, ◌≤◌, Bool, true, false, cond, [], ◌∷◌, drop, length, get_or, refl, arith}
+use Rattle.std.proofs.Common.{◌≡◌, ℕ, ◌+◌, ◌<◌, ◌≤◌, Bool, true, false, cond, [], ◌∷◌, drop, length, get_or, arith}
 use Rattle.std.specs.List.{prefix_len}
 use Rattle.rhai_lower.specs.Texts.{Text}
 

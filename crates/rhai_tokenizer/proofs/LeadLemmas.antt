@@ -1,5 +1,5 @@
 -- What begins with a byte, as the table of leads says it.
-use Rattle.std.proofs.Common.{◌≡◌, ℕ, zero, suc, ◌+◌, ◌<◌, ◌≤◌, length, Bool, true, false, cond, not, ◌&&◌, ◌||◌, ◌==◌, List, [], ◌∷◌, map, get_or, Option, Some, None, refl, sym, ap, ◌∙◌, subst, arith, true≢false, take, drop}
+use Rattle.std.proofs.Common.{◌≡◌, ℕ, zero, suc, ◌+◌, ◌<◌, ◌≤◌, length, Bool, true, false, cond, not, ◌&&◌, ◌==◌, List, [], ◌∷◌, map, get_or, Option, Some, None, refl, sym, ap, ◌∙◌, subst, arith, true≢false, drop}
 use Rattle.std.proofs.lemmas.Bool.{eqb-true}
 use Rattle.std.specs.Prelude.{slice_index}
 use Rattle.rhai_lower.specs.Texts.{Text, same_text}
@@ -16,7 +16,7 @@ use Rattle.rhai_tokenizer.specs.declared.table.Meaning.{Meaning}
 use Rattle.rhai_tokenizer.specs.declared.table.Meaning.TheVariants.{Plain, Held, Refused}
 use Rattle.rhai_tokenizer.specs.Bytes.{begins, begins_with}
 use Rattle.rhai_tokenizer.specs.Cutting.{cut_entry, entry_cut, entry_of, first_class, goes_on, is_closer, is_second, lead_in, lead_of, lead_table, plain_lead, symbol_lead, symbol_table}
-use Rattle.rhai_tokenizer.specs.CuttingMeanings.{IsAlone, IsPair, is_sign}
+use Rattle.rhai_tokenizer.specs.CuttingMeanings.{IsAlone, IsPair}
 use Rattle.rhai_tokenizer.specs.Meanings.{brace_of_symbol}
 use Rattle.rhai_tokenizer.proofs.ByteLemmas.{same_is}
 use Rattle.rhai_tokenizer.proofs.ClassLemmas.{other_hash}
@@ -67,7 +67,8 @@ is_digit l = false
 
 -- what holds of no symbol, brace or other byte
 not_symbol : (p : Lead → Bool) (c : ℕ) (a b d : Bool) (o : Option (Text × Meaning)) → p lead.Brace ≡ false
-    → p lead.End ≡ false → p lead.Other ≡ false → ((f : Fixed) → p (lead.Closer f) ≡ false) → ((f : Fixed) → p (lead.Sign f) ≡ false)
+    → p lead.End ≡ false → p lead.Other ≡ false → ((f : Fixed) → p (lead.Closer f) ≡ false) → ((f : Fixed) → p
+    (lead.Sign f) ≡ false)
     → p (cond a lead.Brace (cond b lead.End (cond d lead.Other (symbol_lead c o)))) ≡ false
 not_symbol p c true b d o br en ot cl si = br
 not_symbol p c false true d o br en ot cl si = en
@@ -382,7 +383,11 @@ colon_pair [] h = record { class = refl; cut = refl; minus = refl; plus = refl; 
 colon_pair (c ∷ t) h = record { class = refl; cut = by (c == 60 && true) h; minus = refl; plus = refl; brace = refl }
   where
     by : (b : Bool) → b ≡ false → ◌≡◌ {A = Kind × ℕ} (kind.Symbol (Plain fixed.DoubleColon), 2)
-        (entry_cut (cut_entry (cond b (Some (58 ∷ 58 ∷ 60 ∷ [], Refused 6)) (Some (58 ∷ 58 ∷ [], Plain fixed.DoubleColon))))
+        (entry_cut (cut_entry (cond b (Some (58 ∷ 58 ∷ 60 ∷ [], Refused 6)) (Some (
+          58 ∷ 58 ∷ [],
+          Plain
+              fixed.DoubleColon,
+        ))))
         (58 ∷ c ∷ t))
     by true h = absurd (true≢false h)
     by false h = refl

@@ -1,6 +1,6 @@
 -- What the table says of words.
 use Rattle.std.proofs.Common.{◌≡◌, ◌≤◌, ◌<◌, ◌-◌, ℕ, zero, suc, Option, nat_le, take, drop, Bool, true, false, cond, List, [], ◌∷◌, map, length, get_or, Some, None, refl, sym}
-use Rattle.std.proofs.Common.{ap, ◌∙◌, arith, true≢false, codes}
+use Rattle.std.proofs.Common.{ap, ◌∙◌, true≢false, codes}
 use Rattle.std.proofs.lemmas.Bool.{agree_below, agree_below_at, and_parts, leb-true, or_parts, false_from_ne_true}
 use Rattle.std.specs.List.{list_all}
 use Rattle.rhai_lower.specs.Texts.{Text, same_text}

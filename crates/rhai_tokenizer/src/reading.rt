@@ -12,7 +12,8 @@ ghost use Rattle.rhai_tokenizer.specs.Cutting as spec;
 ghost use Rattle.rhai_tokenizer.specs.CuttingMeanings.{IsAlone, IsPair, is_plain};
 ghost use Rattle.rhai_tokenizer.specs.Meanings.{at_start, brace_of_symbol, operand_then, text_after};
 ghost use Rattle.rhai_tokenizer.specs.Places.{past};
-ghost use Rattle.rhai_tokenizer.specs.Turns.{IsFront, IsIn, IsPlace, IsQuiet, IsRead, IsReady, IsTurn, Joins, before_of, due};
+ghost use Rattle.rhai_tokenizer.specs.Turns.{IsFront, IsIn, IsPlace, IsQuiet, IsRead};
+ghost use Rattle.rhai_tokenizer.specs.Turns.{IsReady, IsTurn, Joins, before_of, due};
 ghost use Rattle.rhai_tokenizer.specs.Turns.{found_of};
 ghost use Rattle.rhai_tokenizer.specs.Turns.{left, place_of};
 

@@ -29,7 +29,8 @@ returns c limits =
     let taken = c.in_ok-take.ensures in
     let means : lexeme token.LeftBrace ≡ cut_symbol old.operand (Plain fixed.LeftBrace) (take 1 t) =
     sym (no_sign old.operand (Plain fixed.LeftBrace) t front.some front.alone.sign) in
-    cut_turn limits old _ t (take 1 t) (kind.Symbol (Plain fixed.LeftBrace)) 1 (Some token.LeftBrace) c.requires.code cut
+    cut_turn limits old _ t (take 1 t) (kind.Symbol (Plain fixed.LeftBrace)) 1 (Some token.LeftBrace) c.requires.code
+    cut
     refl (ap Some means) refl taken.joined taken.operand
     (block_braces old c.take.new.reading _ brace.Opens (take 1 t) taken.braces taken.opens refl front.opens
     c.in_ok-reading.ensures.text c.in_ok-reading.ensures.braces refl)

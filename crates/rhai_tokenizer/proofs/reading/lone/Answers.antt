@@ -26,7 +26,8 @@ returns-clause-turn c limits =
     let facts = cuts _ _ _ _ t _ _ cut c.utf8.rest refl in
     let taken = c.in_ok-take.ensures in
     let means : lexeme c.fixed_token.result ≡ cut_symbol old.operand (Plain c.args.fixed) (take 1 t) =
-    ap lexeme c.fixed_token.ensures.value ∙ sym (no_sign old.operand (Plain c.args.fixed) t some c.requires.alone.sign) in
+    ap lexeme c.fixed_token.ensures.value ∙ sym (no_sign old.operand (Plain c.args.fixed) t some
+    c.requires.alone.sign) in
     cut_turn limits old _ t (take 1 t) (kind.Symbol (Plain c.args.fixed)) 1 (Some c.fixed_token.result) quiet.code cut
     refl (ap Some means) c.fixed_token.ensures.delivered taken.joined taken.operand
     (lone_braces old _ t some c.requires.brace (taken.in_text ∙ quiet.code)

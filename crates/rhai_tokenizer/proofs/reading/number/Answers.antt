@@ -40,7 +40,8 @@ returns-in_ok-take-in-Integer-clause-turn c positive limits =
     let n = c.number_piece-kind.result.1 in
     let text = take n c.as_bytes-bytes.result.now in
     let found = number_piece limits old.operand (place_of old) t c.as_bytes-bytes.result.now _ _
-    (some_due old.in_text t c.requires.quiet.code c.requires.ready.is_due) c.requires.class c.as_bytes-bytes.ensures.value
+    (some_due old.in_text t c.requires.quiet.code c.requires.ready.is_due) c.requires.class
+    c.as_bytes-bytes.ensures.value
     c.number_piece-kind.ensures.value in
     let cut = subst (λ (k : Kind). IsCut limits old.operand (place_of old) t k n) c.in-Integer.is found in
     let facts = cuts _ _ _ _ _ _ _ found c.utf8.rest c.as_bytes-bytes.ensures.value in

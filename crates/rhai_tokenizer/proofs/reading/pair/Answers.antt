@@ -1,4 +1,4 @@
-use Rattle.std.proofs.Common.{◌≡◌, ap, ◌∙◌, Some, sym, refl, reverse, take, arith}
+use Rattle.std.proofs.Common.{◌≡◌, ap, ◌∙◌, Some, refl, reverse, take, arith}
 use Rattle.rhai_lower.specs.Lexemes.{lexeme}
 use Rattle.rhai_tokenizer.specs.CuttingMeanings.{cut_symbol}
 use Rattle.rhai_tokenizer.specs.declared.lexer.Kind.TheVariants as kind

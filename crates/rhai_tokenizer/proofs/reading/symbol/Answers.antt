@@ -31,13 +31,15 @@ returns-in_ok-reading-in-Some c =
     let n = c.sign-kind.result.1 in
     let text = take n c.as_bytes-bytes.result.now in
     let found = sign_piece c.args.limits old.operand (place_of old) t c.as_bytes-bytes.result.now _ _
-    (some_due old.in_text t c.requires.quiet.code c.requires.ready.is_due) c.requires.class c.as_bytes-bytes.ensures.value
+    (some_due old.in_text t c.requires.quiet.code c.requires.ready.is_due) c.requires.class
+    c.as_bytes-bytes.ensures.value
     c.sign-kind.ensures in
     let cut = subst (λ (k : Kind). IsCut c.args.limits old.operand (place_of old) t k n) c.in-Some.ensures found in
     let facts = cuts _ _ _ _ _ _ _ found c.utf8.rest c.as_bytes-bytes.ensures.value in
     let taken = c.in_ok-take-in-Some.ensures in
     cut_turn c.args.limits old _ t text (kind.Symbol (Plain c.in-Some.fixed)) n
-    (Some c.fixed_symbol-token.result) c.requires.quiet.code cut facts.front (ap Some c.fixed_symbol-token.ensures.value)
+    (Some c.fixed_symbol-token.result) c.requires.quiet.code cut facts.front (ap Some
+    c.fixed_symbol-token.ensures.value)
     c.fixed_symbol-token.ensures.delivered taken.joined taken.operand
     (symbol_braces old c.take.new.reading _ c.symbol_brace.result text taken.braces c.requires.quiet.opens
     c.symbol_brace.ensures c.in_ok-reading-in-Some.ensures.text c.in_ok-reading-in-Some.ensures.braces

@@ -1,4 +1,4 @@
-use Rattle.std.proofs.Common.{ap, sym, ◌∙◌, lit<, refl, reverse, take}
+use Rattle.std.proofs.Common.{ap, sym, ◌∙◌, lit<, reverse, take}
 use Rattle.std.proofs.lemmas.List.{take_rest}
 use Rattle.rhai_lower.specs.Lexemes.{String}
 use Rattle.rhai_tokenizer.specs.Meanings.{within}

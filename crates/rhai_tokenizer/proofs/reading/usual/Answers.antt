@@ -1,10 +1,10 @@
-use Rattle.std.proofs.Common.{◌==◌, ◌∙◌, ap, arith, drop, subst, sym}
+use Rattle.std.proofs.Common.{◌∙◌, ap, arith, drop, subst, sym}
 use Rattle.std.proofs.lemmas.List.{take_rest}
 use Rattle.std.specs.Prelude.{slice_index}
 use Rattle.rhai_lower.specs.Texts.{Text}
 use Rattle.rhai_tokenizer.specs.Bytes.{begins}
 use Rattle.rhai_tokenizer.specs.CuttingMeanings.{IsPair}
-use Rattle.rhai_tokenizer.specs.Cutting.{first_class, is_second, lead_of}
+use Rattle.rhai_tokenizer.specs.Cutting.{is_second, lead_of}
 use Rattle.rhai_tokenizer.proofs.LeadLemmas.{blank_lead, brace_begins, brace_lead, closer_alone, digit_lead, end_begins, end_lead, fixed_in, keeps_braces, sign_alone, word_lead}
 use Rattle.rhai_tokenizer.proofs.reading.usual.Goals as goal
 

@@ -25,7 +25,8 @@ loop-reading-smaller c =
     let ready = quiet_ready no_limits c.args.reading.now c.loop-reading.reading c.args.text.now
     c.loop-reading.rest.now c.is_due.result c.requires.ready (c.loop-reading.invariant.read no_limits)
     c.loop-reading.invariant.quiet c.is_due.ensures c.loop-reading-test.true in
-    quiet_falls no_limits c.loop-reading.reading c.usual.new.reading c.loop-reading.rest.now c.split_at.result.1.now c.in-Some.len
+    quiet_falls no_limits c.loop-reading.reading c.usual.new.reading c.loop-reading.rest.now c.split_at.result.1.now
+    c.in-Some.len
     ready (some_turn c.loop-reading.reading c.usual.new.reading c.loop-reading.rest.now c.in_ok-len.field-0
     c.in-Some.len c.in-Some.is c.in_ok-len.ensures.turn no_limits) c.split_at.ensures.back
     c.loop-reading.invariant.quiet c.in_ok-len.ensures.quiet
@@ -41,7 +42,8 @@ loop-reading-preserved c =
     c.split_at.result.1.now c.in-Some.len ready (turn no_limits) c.split_at.ensures.back
     c.loop-reading.invariant.quiet c.in_ok-len.ensures.quiet in
     let read : (limits : Limits) → IsRead limits c.loop-reading.reading c.usual.new.reading c.loop-reading.rest.now
-    c.split_at.result.1.now = λ limits. turn_read limits c.loop-reading.reading c.usual.new.reading c.loop-reading.rest.now
+    c.split_at.result.1.now = λ limits. turn_read limits c.loop-reading.reading c.usual.new.reading
+    c.loop-reading.rest.now
     c.split_at.result.1.now c.in-Some.len ready (turn limits) c.split_at.ensures.back
     c.loop-reading.invariant.utf8 in
     record {
