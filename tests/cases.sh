@@ -1,8 +1,8 @@
 #!/usr/bin/env bash
-# Runs the table of cases and the examples that have an answer, or only the files named, through the program, and prints
-# each run that fails. cases/README.md describes the format of a case. Where no file is named, it also compares the code
-# that README.md and docs/ARCHITECTURE.md show with what tests call, as two more runs. The last line counts the runs;
-# the exit status is 1 if any failed.
+# Runs the table of cases, and the examples that have an answer. Each goes through the program, and a run that fails is
+# printed. If files are named, only their cases are run. cases/README.md describes the format of a case. Where no file
+# is named, it also compares the code that README.md and docs/ARCHITECTURE.md show with what tests call, as two more
+# runs. The last line counts the runs; the exit status is 1 if any failed.
 #
 # usage: tests/cases.sh [PROGRAM] [FILE.txt ..]
 #

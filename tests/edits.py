@@ -1,5 +1,5 @@
 #!/usr/bin/env python3
-"""Tries the wrong bodies of tests/edits: the prover has to refuse each, and the commit is kept.
+"""Tries the wrong bodies of tests/edits. The prover has to refuse each; then the commit is kept.
 
 usage: tests/edits.py [CRATE|EDIT ..]
        tests/edits.py --old|--check

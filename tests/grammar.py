@@ -1,10 +1,10 @@
 #!/usr/bin/env python3
-"""Compares the productions with the page of the language: each rule stands word for word above its production.
+"""Compares the productions with the page of the language. Each rule has to stand word for word above its production.
 
 usage: tests/grammar.py
 
 The page is the block of rules in docs/GRAMMAR.md, "The language on one page"; its last rule, the table of strengths, is
-left out. The productions are in crates/rhai_productions/specs/RulesOf*.antt: in the comment above one, a line that
+left out. The productions are in crates/rhai_grammar/specs/RulesOf*.antt: in the comment above one, a line that
 begins with five blanks is a rule, and one with seven goes on with it. It prints each rule that stands nowhere, in two
 places or in other words, and each that the page does not have.
 """
@@ -15,7 +15,7 @@ import sys
 
 ROOT = pathlib.Path(__file__).resolve().parent.parent
 PAGE = ROOT / "docs/GRAMMAR.md"
-PRODUCTIONS = ROOT / "crates/rhai_productions/specs"
+PRODUCTIONS = ROOT / "crates/rhai_grammar/specs"
 TABLE = "binary"
 
 

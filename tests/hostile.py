@@ -1,7 +1,6 @@
 #!/usr/bin/env python3
-"""Runs the program where memory is refused, where lists are damaged at each place, and where inputs and outputs fail
-(hostile/README.md). It prints each run that fails, and counts; the last line counts the runs, and the exit status is 1
-if any failed.
+"""Runs the program without memory, on damaged lists, and where inputs and outputs fail. hostile/README.md says how. It
+prints each run that fails, and counts; the last line counts the runs, and the exit status is 1 if any failed.
 
 usage: tests/hostile.py [--jobs N] [--wrong] [PROGRAM [TESTS]]
 

@@ -1,18 +1,23 @@
 #!/usr/bin/env python3
-"""Writes docs/MAP.md, the map of files, from the first sentence of each file's head comment.
+"""Writes docs/MAP.md, the map of files, or finds files by words.
 
-usage: tests/map.py [--check]
+usage: tests/map.py [--check | WORD ..]
 
-For each crate of crates.txt the map has a heading, what the crate is for (from its root file), each file of src/ and
-specs/ with its sentence, and the names of the files of proofs/. Then come the gate and the files of tests/. Lists of
-modules (Lib.antt) and the folders below proofs/ are left out.
+The first sentence of each file's head comment says what the file holds. The map has the definitions of the language,
+with their sentences; a family of definitions has one line.
+
+With words it writes nothing, and prints each file, with its sentence, that has all of these words in its path or in
+its sentence, in any case: the files of the crates, the gate and the files of tests/. Lists of modules (Lib.antt) and
+the folders below proofs/ are left out.
 
 With --check it writes nothing, and prints the lines that differ if the document is not what it would write. The exit
-status is then 1. It is also 1 if a file has no head comment, one of proofs/ included.
+status is then 1. It is also 1 if a file has no head comment.
 """
 
 import ast
 import difflib
+import fnmatch
+import itertools
 import pathlib
 import re
 import sys
@@ -23,11 +28,19 @@ DOCUMENT = ROOT / "docs/MAP.md"
 HEAD = """\
 # Map of files
 
-Each crate, lowest first, with what its files hold. Files of `proofs/` are only named; each begins with a comment.
-[ARCHITECTURE.md](ARCHITECTURE.md) says how the crates belong together.
+Every file begins with a comment that says what it holds. `tests/map.py WORD ..` prints the files that have these words
+in their path or in that comment: `tests/map.py slot` finds what has to do with slots, `tests/map.py rhai_base/src` the
+code of a crate. [ARCHITECTURE.md](ARCHITECTURE.md) has the crates, and says where to put what.
 
-`tests/map.py` writes this file from the head comments of the files. Change those, not this file."""
+Here are only the definitions of the language, in `crates/rhai_grammar/specs`. `tests/map.py` writes this list from the
+comments of the files. Change those, not this file."""
 COLUMNS = 120
+
+# The folder of the definitions of the language.
+LANGUAGE = ROOT / "crates/rhai_grammar/specs"
+
+# Families of definitions: how their names begin or end, and what they hold.
+FAMILIES = {"RulesOf*": "Productions by their kind.", "*Laws": "Laws."}
 
 # How a line of a head comment begins, by how the file's name ends; elsewhere by `#`. A README has one after its title.
 MARKS = {".rt": "//!", ".antt": "--", ".md": ""}
@@ -61,23 +74,21 @@ def wrapped(text, columns):
     return textwrap.wrap(text, columns, break_on_hyphens=False) or [""]
 
 
-def table(folder, paths, faults):
-    """Answers a block of lines: each file by its name from the folder on, with its sentence beside it."""
-    names = [path.relative_to(folder).as_posix() for path in paths]
-    width = max(len(name) for name in names) + 2
+def row(path):
+    """Answers how the map names a file of definitions, and what it says of it: those of its family, or its own."""
+    family = next((it for it in FAMILIES if fnmatch.fnmatch(path.stem, it)), None)
+    return (family, FAMILIES[family]) if family else (path.stem, first_sentence(path, []))
+
+
+def table(paths):
+    """Answers a block of lines: each file or family by its name, with what it holds."""
+    rows = dict(row(path) for path in paths)
+    width = max(len(name) for name in rows) + 2
     lines = []
-    for name, path in zip(names, paths):
-        sentence = wrapped(first_sentence(path, faults), COLUMNS - width)
-        lines += [(name.ljust(width) + sentence[0]).rstrip()]
-        lines += [" " * width + more for more in sentence[1:]]
+    for name, sentence in rows.items():
+        first, *others = wrapped(sentence, COLUMNS - width)
+        lines += [(name.ljust(width) + first).rstrip(), *(" " * width + more for more in others)]
     return ["", "```", *lines, "```"]
-
-
-def paragraph(paths, faults):
-    """Answers a paragraph that names files of proofs/, without what their names end with. There may be none."""
-    for path in paths:
-        first_sentence(path, faults)
-    return ["", *wrapped("`proofs/`: " + ", ".join(f"`{path.stem}`" for path in paths), COLUMNS)] if paths else []
 
 
 def by_module(path):
@@ -91,40 +102,58 @@ def terms_of(folder):
 
 
 def files_of(crate):
-    """Answers the root file of a crate, then its other code and its definitions, then its proofs."""
+    """Answers the root file of a crate, then its other code, its definitions, and its proofs."""
     sources = sorted((crate / "src").rglob("*.rt"), key=by_module)
     root = next(it for it in sources if it in (crate / "src/lib.rt", crate / "src/main.rt"))
     sources.remove(root)
-    return root, sources + terms_of(crate / "specs"), terms_of(crate / "proofs")
+    return root, sources, terms_of(crate / "specs"), terms_of(crate / "proofs")
 
 
-def map_of_crate(name, faults):
-    """Answers the lines of the map for a crate."""
-    crate = ROOT / "crates" / name
-    root, files, proofs = files_of(crate)
-    purpose = wrapped(first_sentence(root, faults), COLUMNS)
-    return ["", f"## `{name}`", "", *purpose, *table(crate, files, faults), *paragraph(proofs, faults)]
-
-
-def map_of_tests(faults):
-    """Answers the lines of the map for the gate and the files of the tests. Folders there are told by their README."""
+def files_of_tests():
+    """Answers the gate and the files of the tests. Folders there are told by their README."""
     tests = ROOT / "tests"
-    files = sorted(it for it in tests.iterdir() if it.is_file()) + sorted(tests.glob("*/README.md"))
-    return ["", "## The gate and the tests", *table(ROOT, [ROOT / ".ci/run", *files], faults)]
+    return [ROOT / ".ci/run", *sorted(it for it in tests.iterdir() if it.is_file()), *sorted(tests.glob("*/README.md"))]
+
+
+def crates():
+    """Answers the names of the crates, lowest first."""
+    listed = (ROOT / "crates.txt").read_text(encoding="utf-8").splitlines()
+    return [line.split(":")[0].split()[0] for line in listed if line.strip() and not line.startswith("#")]
+
+
+def all_files():
+    """Yields all files that have a sentence: those of the crates, and those of the tests."""
+    for name in crates():
+        root, *others = files_of(ROOT / "crates" / name)
+        yield root
+        yield from itertools.chain(*others)
+    yield from files_of_tests()
 
 
 def make_map(faults):
-    """Answers all lines of the document."""
-    listed = (ROOT / "crates.txt").read_text(encoding="utf-8").splitlines()
-    names = [line.split(":")[0].split()[0] for line in listed if line.strip() and not line.startswith("#")]
-    lines = [line for name in names for line in map_of_crate(name, faults)]
-    return HEAD.splitlines() + lines + map_of_tests(faults)
+    """Answers all lines of the document. Notes each file without a sentence, also of those that it does not show."""
+    for path in all_files():
+        first_sentence(path, faults)
+    return [*HEAD.splitlines(), *table(terms_of(LANGUAGE))]
+
+
+def find(words):
+    """Prints each file that has all of these words in its path or its sentence. Answers the exit status."""
+    found = False
+    for path in all_files():
+        line = f"{path.relative_to(ROOT)}: {first_sentence(path, [])}"
+        if all(word.lower() in line.lower() for word in words):
+            print(line)
+            found = True
+    return 0 if found else 1
 
 
 def main(words):
-    """Writes or checks the map, and answers the exit status."""
-    if words not in ([], ["--check"]):
+    """Writes or checks the map, or finds files, and answers the exit status."""
+    if words and words[0].startswith("-") and words != ["--check"]:
         sys.exit(__doc__.split("\n\n")[1])
+    if words and words != ["--check"]:
+        return find(words)
     faults = []
     old = DOCUMENT.read_text(encoding="utf-8").splitlines() if DOCUMENT.is_file() else []
     new = make_map(faults)

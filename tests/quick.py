@@ -1,5 +1,5 @@
 #!/usr/bin/env python3
-"""Runs the tests of a fresh clone, without any proof: those of the crates, and the worked cases.
+"""Runs the tests that need no proof: those of the crates, and the worked cases.
 
 It takes some minutes, and prints what fails; the last line counts the tests, and the exit status is 1 if any failed.
 

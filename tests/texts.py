@@ -3,7 +3,7 @@
 
 usage: tests/texts.py [PROGRAM]
 
-Without PROGRAM it runs the one that `rt run` in crates/rhai_ast built last. It runs the rows of docs/GRAMMAR.md, each
+Without PROGRAM it runs the one that `rt run` in crates/rhai_ast built last. It runs the rows of tests/texts.txt, each
 script of examples/ that has a list of tokens beside it, texts that are hard to read, and for each kind of piece a
 short text and a long one: the long one has to take time in proportion. For each script and each row it also refuses
 each request for memory in turn. The last line counts the runs; the exit status is 1 if any failed.
@@ -58,15 +58,15 @@ def tokens(runs, text, *words):
 
 
 def rows():
-    """Answers the rows of the grammar: each as it stands there, its text, and its tokens without positions."""
-    block = (ROOT / "docs/GRAMMAR.md").read_text(encoding="utf-8").split("```tokens\n")[1].split("```")[0]
-    for row in block.splitlines():
+    """Answers the rows of texts.txt: each as it stands there, its text, and its tokens without positions."""
+    lines = (ROOT / "tests/texts.txt").read_text(encoding="utf-8").splitlines()
+    for row in [line for line in lines if not line.startswith("#")]:
         text, after = json.JSONDecoder().raw_decode(row)
         yield row, text, [word.strip() for word in row[after:].strip().split("  ")] + ["eof"]
 
 
 def check_rows(runs):
-    """Runs the rows of the grammar."""
+    """Runs the rows of texts.txt."""
     for row, text, wanted in rows():
         status, lines, _ = tokens(runs, text)
         got = [line.split(" ", 1)[1] for line in lines]

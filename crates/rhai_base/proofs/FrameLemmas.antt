@@ -152,7 +152,7 @@ exported_live (Ok x) outer block imports name alias own new ok =
     ap live (ap (λ s. outer ++ s) ok ∙ export_over outer own block alias name)
 exported_live (Err x) outer block imports name alias own new ok = tt
 
--- ---- places
+-- ---- slot numbers
 
 -- The number of a name among all slots, of which `k` are later than those of a frame that is reached.
 after_own : (name : Text) (all slots outer own : List SlotValue) (k : ℕ) → outer ++ own ≡ slots → number name all ≡ option_map (λ n. k + n) (number name slots) → (o : Option ℕ) → o ≡ number name own → number name all ≡ option_map (λ n. k + n) (option_or o (option_map (λ n. n + length own) (number name outer)))

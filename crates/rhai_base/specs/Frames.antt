@@ -30,7 +30,7 @@ pub record FrameValue : Type 0 where
 
 -- A frame is as deep as it was, its expressions may contain the same tokens, the same is known, and as many functions
 -- have begun.
-pub record SamePlace (old new : FrameValue) : Type 0 where
+pub record SameSurroundings (old new : FrameValue) : Type 0 where
   pub depth : new.depth ≡ old.depth
   pub filter : new.filter ≡ old.filter
   pub known : new.known ≡ old.known

@@ -10,10 +10,10 @@ use Rattle.rhai_grammar.specs.Causes.{Cause}
 use Rattle.rhai_grammar.specs.Delivered.{is_end}
 use Rattle.rhai_grammar.specs.Beginnings.{missing}
 use Rattle.rhai_grammar.specs.Literals as literal
-use Rattle.rhai_grammar.specs.Literals.{KeyPlace, no_key}
+use Rattle.rhai_grammar.specs.Literals.{KeyRole, no_key}
 
 -- the key that stands where one may; none where the object map ends
-abbrev pub key_found : Option (RcStr Global) → KeyPlace
+abbrev pub key_found : Option (RcStr Global) → KeyRole
 key_found None = literal.FieldsEnd
 key_found (Some t) = literal.AKey (rc_str_bytes t)
 

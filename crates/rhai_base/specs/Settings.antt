@@ -4,7 +4,7 @@ use Rattle.rhai_lower.specs.Positions.{place}
 use Rattle.rhai_lower.specs.declared.position.Position.{Position}
 use Rattle.rhai_grammar.specs.declared.error.ParseErrorType.TheVariants as error
 use Rattle.rhai_grammar.specs.declared.error.ParseError.{ParseError}
-use Rattle.rhai_grammar.specs.Settings.{Settings, has_room, level_up, one_more}
+use Rattle.rhai_grammar.specs.Settings.{Settings, may_raise, level_up, one_more}
 use Rattle.rhai_base.specs.declared.settings.ParseSettings.{ParseSettings}
 use Rattle.rhai_base.specs.declared.settings.RunSettings.{RunSettings}
 
@@ -39,8 +39,8 @@ too_many_functions at = record { 0 = error.TooManyFunctions; 1 = at }
 -- A raise is possible and gives the settings one level deeper, at this position; or it is not possible and is refused
 -- at the old position.
 abbrev pub Raises : ParseSettings → Position → Result ParseSettings ParseError → Type 0
-Raises c at (Ok d) = (has_room (settings_of c) ≡ true) × (settings_of d ≡ level_up (settings_of c)) × (d.pos ≡ at)
-Raises c at (Err e) = (has_room (settings_of c) ≡ false) × (e ≡ too_deep c.pos)
+Raises c at (Ok d) = (may_raise (settings_of c) ≡ true) × (settings_of d ≡ level_up (settings_of c)) × (d.pos ≡ at)
+Raises c at (Err e) = (may_raise (settings_of c) ≡ false) × (e ≡ too_deep c.pos)
 
 -- After an operator of a run, at this position, its right side has the settings one level deeper, at the old position,
 -- and the operators that follow it have them at the operator.

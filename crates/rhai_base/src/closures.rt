@@ -32,7 +32,7 @@ fn shared_names(
 {
     let mut names = Vec::new(alloc);
     for used in captured {
-        let index = frame.place_of(&used.0);
+        let index = frame.slot_number(&used.0);
         let name = Ident {
             name: used.0.clone()?,
             pos: used.1,
@@ -52,7 +52,7 @@ fn captured_node(
     ensures { IfOk result (λ e. view e ≡ captured_node frame.now.live.slots (use_of used.now)) }
 {
     let variable = VariableExpr {
-        index: frame.place_of(&used.0),
+        index: frame.slot_number(&used.0),
         name: used.0.clone()?,
         namespace: Namespace {
             path: Vec::new(alloc),

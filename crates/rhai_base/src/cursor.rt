@@ -7,7 +7,7 @@ ghost use Rattle.std.specs.Io.BufRead.{Rests};
 ghost use Rattle.rhai_lower.specs.contracts.stream.TokenStream.{the_row};
 ghost use Rattle.rhai_lower.specs.Lexemes.{lexeme};
 ghost use Rattle.rhai_grammar.specs.Delivered.{is_end, is_memory};
-ghost use Rattle.rhai_grammar.specs.Cursors.{asked, cursor_of, item_of, left, looking, taking};
+ghost use Rattle.rhai_grammar.specs.Cursors.{next_item, cursor_of, item_of, left, after_peek, after_take};
 ghost use Rattle.rhai_base.specs.Shown.{Shows};
 
 use rhai_lower::{LexError, Position, Token, TokenStream};
@@ -27,8 +27,8 @@ fn is_memory(token: &Token) -> bool
 /// token, which is not taken either; `?` turns the error into `OutOfMemory`. Does not allocate.
 #[tactic(auto, using(rhai_grammar::proofs::CursorLemmas::asked_item))]
 pub fn peek(input: &mut TokenStream) -> Result<&(Token, Position), AllocError>
-    ensures shown { Shows (asked (cursor_of input.old)) result }
-    ensures* after { sem 𝓛 (Rests the_row input.entry (λ s. cursor_of s ≡ looking (cursor_of input.old))) }
+    ensures shown { Shows (next_item (cursor_of input.old)) result }
+    ensures* after { sem 𝓛 (Rests the_row input.entry (λ s. cursor_of s ≡ after_peek (cursor_of input.old))) }
 {
     let next = input.peek();
     if is_memory(&next.0) {
@@ -40,10 +40,10 @@ pub fn peek(input: &mut TokenStream) -> Result<&(Token, Position), AllocError>
 /// Takes the next token with its position. Does not allocate.
 #[tactic(auto, using(rhai_grammar::proofs::CursorLemmas::taken))]
 pub fn take(input: &mut TokenStream) -> (Token, Position)
-    ensures value { item_of result ≡ asked (cursor_of input.old) }
-    ensures after { cursor_of input.new ≡ taking (cursor_of input.old) }
+    ensures value { item_of result ≡ next_item (cursor_of input.old) }
+    ensures after { cursor_of input.new ≡ after_take (cursor_of input.old) }
     ensures shorter { left (cursor_of input.new).tokens ≤ left (cursor_of input.old).tokens }
-    ensures shrinks { is_end (asked (cursor_of input.old)).lexeme ≡ false
+    ensures shrinks { is_end (next_item (cursor_of input.old)).lexeme ≡ false
         → left (cursor_of input.new).tokens + 1 ≤ left (cursor_of input.old).tokens }
 {
     input.next()
@@ -52,9 +52,9 @@ pub fn take(input: &mut TokenStream) -> (Token, Position)
 /// Takes the next token and drops it. Does not allocate.
 #[tactic(auto, using(rhai_grammar::proofs::CursorLemmas::taken))]
 pub fn skip(input: &mut TokenStream)
-    ensures after { cursor_of input.new ≡ taking (cursor_of input.old) }
+    ensures after { cursor_of input.new ≡ after_take (cursor_of input.old) }
     ensures shorter { left (cursor_of input.new).tokens ≤ left (cursor_of input.old).tokens }
-    ensures shrinks { is_end (asked (cursor_of input.old)).lexeme ≡ false
+    ensures shrinks { is_end (next_item (cursor_of input.old)).lexeme ≡ false
         → left (cursor_of input.new).tokens + 1 ≤ left (cursor_of input.old).tokens }
 {
     input.skip();

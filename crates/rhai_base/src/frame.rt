@@ -9,10 +9,10 @@ ghost use Rattle.rhai_grammar.specs.Imports.{module_number};
 ghost use Rattle.rhai_grammar.specs.Slots.{number};
 ghost use Rattle.rhai_grammar.specs.Targets.{is_constant_at};
 ghost use Rattle.rhai_grammar.specs.declared.filter.ExprFilter.TheVariants.{All, AllButPipe};
-ghost use Rattle.rhai_base.specs.Frames.{SamePlace};
+ghost use Rattle.rhai_base.specs.Frames.{SameSurroundings};
 
 use crate::known::Known;
-use crate::lookup::{import_place, place_of};
+use crate::lookup::{import_place, slot_number};
 use crate::slots::{define, export};
 use rhai_grammar::ExprFilter;
 use rhai_lower::{NamedList, Scope};
@@ -219,13 +219,13 @@ impl<'p> Frame<'p> {
 
     /// The number of the latest slot of the variable `name`, counted from 1 at the latest slot of all; none if no slot
     /// has the name. Does not allocate.
-    pub fn place_of(&self, name: &str) -> Option<NonZeroUsize>
+    pub fn slot_number(&self, name: &str) -> Option<NonZeroUsize>
         ensures { option_map non_zero_usize_get result ≡ number name.now self.now.live.slots }
     {
         let len = self.len();
         let mut frame = self;
         loop {
-            if let Some(place) = place_of(&frame.stack, name) {
+            if let Some(place) = slot_number(&frame.stack, name) {
                 return NonZeroUsize::new(len - frame.len() + place.get());
             }
             let Some(outer) = frame.outer else {
@@ -270,7 +270,7 @@ impl<'p> Frame<'p> {
         ensures number { IfOk result (λ number. option_map non_zero_usize_get number
             ≡ reused self.old.live.block (rc_str_bytes name.now) self.old.live.slots) }
         ensures ok { OnOk result (self.new.live ≡ defined (rc_str_bytes name.now) constant self.old.live) }
-        ensures place { SamePlace self.old self.new }
+        ensures place { SameSurroundings self.old self.new }
     {
         if self.len() == usize::MAX {
             return Err(AllocError);
@@ -282,7 +282,7 @@ impl<'p> Frame<'p> {
     /// and of `catch` get one each. The error is that there is no memory for it.
     pub fn declare(&mut self, name: &RcStr) -> Result<(), AllocError>
         ensures ok { OnOk result (self.new.live ≡ declared (rc_str_bytes name.now) self.old.live) }
-        ensures place { SamePlace self.old self.new }
+        ensures place { SameSurroundings self.old self.new }
     {
         if self.len() == usize::MAX {
             return Err(AllocError);
@@ -297,7 +297,7 @@ impl<'p> Frame<'p> {
     pub fn export(&mut self, name: &RcStr, alias: &RcStr) -> Result<(), AllocError>
         ensures ok { OnOk result
             (self.new.live ≡ exported (rc_str_bytes name.now) (rc_str_bytes alias.now) self.old.live) }
-        ensures place { SamePlace self.old self.new }
+        ensures place { SameSurroundings self.old self.new }
     {
         export(&mut self.stack, self.block, name, alias)
     }
@@ -306,7 +306,7 @@ impl<'p> Frame<'p> {
     /// for it.
     pub fn import(&mut self, alloc: Global, name: &Option<RcStr>) -> Result<(), AllocError>
         ensures ok { OnOk result (self.new.live ≡ imported (option_map rc_str_bytes name.now) self.old.live) }
-        ensures place { SamePlace self.old self.new }
+        ensures place { SameSurroundings self.old self.new }
     {
         if self.import_count() == usize::MAX {
             return Err(AllocError);

@@ -2,6 +2,7 @@
 //! them, without reading an expression. The cursor and the nodes of values and names are here too.
 #![tactic(auto)]
 
+pub mod allowed;
 pub mod captured;
 pub mod closure_name;
 pub mod closures;
@@ -18,7 +19,6 @@ pub mod library_index;
 pub mod literals;
 pub mod lookup;
 pub mod modules;
-pub mod places;
 pub mod settings;
 mod slots;
 pub mod state;

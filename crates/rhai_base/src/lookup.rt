@@ -38,7 +38,7 @@ pub fn find_slot(slots: &Scope, name: &str) -> (usize, bool)
 /// the name. A slot named `$ BARRIER $` is never found. It does not allocate. Where there are many slots, the time does
 /// not grow with them.
 #[tactic(auto, using(crate::proofs::FindLemmas::places))]
-pub fn place_of(slots: &Scope, name: &str) -> Option<NonZeroUsize>
+pub fn slot_number(slots: &Scope, name: &str) -> Option<NonZeroUsize>
     ensures { option_map non_zero_usize_get result ≡ number name.now slots.now }
 {
     let index = slots.latest(name)?;

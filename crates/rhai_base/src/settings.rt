@@ -20,7 +20,7 @@ pub struct ParseSettings {
     pub max_expr_depth: usize,
     /// The position where it begins.
     pub pos: Position,
-    /// The place of the construct, and what it must not contain.
+    /// Where the construct is, and what it must not contain.
     pub flags: ParseSettingFlags,
     /// The parts of the language that it may use.
     pub options: LangOptions,

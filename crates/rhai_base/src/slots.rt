@@ -6,7 +6,7 @@ ghost use Rattle.std.specs.Rc.{rc_str_bytes};
 ghost use Rattle.rhai_grammar.specs.Definitions.{define, export_at, is_in_block, is_reusable, reused};
 ghost use Rattle.rhai_grammar.specs.Slots.{number};
 
-use crate::lookup::place_of;
+use crate::lookup::slot_number;
 use rhai_lower::Scope;
 use std::alloc::AllocError;
 use std::num::NonZeroUsize;
@@ -35,7 +35,7 @@ fn is_reusable(slots: &Scope, block: usize, place: NonZeroUsize) -> bool
 fn reused(slots: &Scope, block: usize, name: &str) -> Option<NonZeroUsize>
     ensures { option_map non_zero_usize_get result ≡ reused block name.now slots.now }
 {
-    let place = place_of(slots, name)?;
+    let place = slot_number(slots, name)?;
     if is_reusable(slots, block, place) {
         return Some(place);
     }
@@ -81,7 +81,7 @@ pub fn export(
         (slots.new ≡ export_at block (rc_str_bytes alias.now) slots.old (number (rc_str_bytes name.now) slots.old)) }
     ensures err { OnErr result (slots.new ≡ slots.old) }
 {
-    let Some(place) = place_of(slots, name) else {
+    let Some(place) = slot_number(slots, name) else {
         return Ok(());
     };
     if !is_in_block(slots, block, place) {

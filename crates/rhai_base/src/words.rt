@@ -82,7 +82,7 @@ pub fn name_node(
     if !frame.may_use(settings.has_option(LangOptions::STRICT_VAR), library, &name) {
         return Err(ParseError(ParseErrorType::VariableUndefined(name), pos));
     }
-    let index = frame.place_of(&name);
+    let index = frame.slot_number(&name);
     Ok(variable(alloc, index, name, pos)?)
 }
 

@@ -1,18 +1,13 @@
 -- What the shapes of nodes do to the operations that trees are made by.
 use Rattle.std.proofs.Common.{◌≡◌, Bool, true, false, List, [], ◌∷◌, ◌++◌, refl, sym, ap, ◌∙◌, if◌then◌else◌}
-use Rattle.std.specs.Prelude.{Option, Some, None}
-use Rattle.std.specs.Option.{is_some}
 use Rattle.rhai_grammar.specs.Prelude.{Text, nowhere, Lexeme, Sign, Node, Nodes, position_of, Position, value_of}
 use Rattle.rhai_grammar.specs.Prelude.{Bracket, Chain, Dotted, Link, LinkKind, chain_of, chained, is_last, link_node}
-use Rattle.rhai_grammar.specs.Prelude.{nest, is_scoped, path_tree, qualified, Part, joined, joined_tree, list_of_parts}
+use Rattle.rhai_grammar.specs.Prelude.{nest, Part, joined, joined_tree, list_of_parts}
 use Rattle.rhai_grammar.specs.Prelude.{part, node_shape, nodes_shape, affected, call_tree, method_tree, node_count}
 use Rattle.rhai_lower.specs.Nodes as node
 use Rattle.rhai_lower.specs.declared.token.Token.TheVariants as token
-use Rattle.rhai_grammar.specs.Forms as form
-use Rattle.rhai_grammar.specs.Modules.{root_of}
 use Rattle.rhai_grammar.specs.Operators as O
 use Rattle.rhai_grammar.specs.Shapes as shape
-use Rattle.rhai_grammar.specs.Shapes.{bang_shape}
 use Rattle.rhai_grammar.specs.declared.role.Effect.{Effect}
 use Rattle.rhai_grammar.specs.declared.role.Effect.TheVariants.{Keeps, Negates}
 use Rattle.rhai_grammar.specs.declared.role.ListKind.{ListKind}
@@ -28,10 +23,6 @@ value (Sign token.True) p = refl
 value (Sign token.False) p = refl
 value _ p = refl
 
-pub word : (t : Text) (b : Bool) (p : Position) → node_shape (if b then node.this p else T.variable_of None t p) ≡ (if b then node.this nowhere else T.variable_of None t nowhere)
-word t true p = refl
-word t false p = refl
-
 pub name : (n : Node) → T.named_by (node_shape n) ≡ shape.named_shape (T.named_by n)
 name (node.variable v p) = refl
 name _ = refl
@@ -44,40 +35,11 @@ count : (ns : Nodes) → node_count (nodes_shape ns) ≡ node_count ns
 count node.no_nodes = refl
 count (node.one_node n ns) = let e = count ns in cc
 
-pub bang : (b : Option Position) → is_some (bang_shape b) ≡ is_some b
-bang None = refl
-bang (Some p) = refl
-
 pub call : (n : Node) (b : Bool) (ns : Nodes) → node_shape (call_tree n b ns) ≡ call_tree (node_shape n) b (nodes_shape ns)
 call n b ns = let e = name n in let f = stands n in let g = count ns in cc
 
 pub method : (t : Text) (p : Position) (b : Bool) (ns : Nodes) → node_shape (method_tree t p b ns) ≡ method_tree t nowhere b (nodes_shape ns)
 method t p b ns = let g = count ns in cc
-
--- ---- paths
-
-path_append : (a b : List (Text × Position)) → shape.path_shape (a ++ b) ≡ shape.path_shape a ++ shape.path_shape b
-path_append [] b = refl
-path_append (t ∷ a) b = let e = path_append a b in cc
-
-path_root : (path : List (Text × Position)) (t : Text) → root_of (shape.path_shape path) t ≡ root_of path t
-path_root [] t = refl
-path_root (root ∷ path) t = refl
-
-qualify : (imports : List Text) (n : Node) (t : Text) (p : Position) → node_shape (qualified imports n t p) ≡ qualified imports (node_shape n) t nowhere
-qualify imports (node.variable v q) t p =
-    let e = path_append v.path ((v.name, q) ∷ []) in let f = path_root v.path v.name in cc
-qualify imports _ t p = refl
-
-pub scoped : (names : form.Path) (imports : List Text) (n : Node) → node_shape (path_tree names imports n) ≡ path_tree (shape.scoped_shape names) imports (node_shape n)
-scoped form.NoPath imports n = refl
-scoped (form.Scoped colons t at rest) imports n =
-    scoped rest imports (qualified imports n t at)
-    ∙ ap (path_tree (shape.scoped_shape rest) imports) (qualify imports n t at)
-
-pub has_names : (names : form.Path) → is_scoped (shape.scoped_shape names) ≡ is_scoped names
-has_names form.NoPath = refl
-has_names (form.Scoped colons t at rest) = refl
 
 -- ---- signs and operators
 

@@ -99,10 +99,6 @@ abbrev pub is_sign : Beginning → Bool
 is_sign begin.Sign = true
 is_sign _ = false
 
-abbrev pub is_range : Beginning → Bool
-is_range begin.Range = true
-is_range _ = false
-
 -- After a range operator, these tokens stand for an omitted unit.
 abbrev pub sign_omits_operand : Token → Bool
 sign_omits_operand RightBracket = true
@@ -180,14 +176,6 @@ abbrev pub linking : Lexeme → Linking
 linking (Sign t) = sign_linking t
 linking _ = link.Nothing
 
-abbrev pub is_bracket : Linking → Bool
-is_bracket link.Bracket = true
-is_bracket _ = false
-
-abbrev pub is_dot : Linking → Bool
-is_dot link.Dot = true
-is_dot _ = false
-
 abbrev pub is_link : Linking → Bool
 is_link link.Nothing = false
 is_link _ = true
@@ -210,21 +198,17 @@ abbrev pub may_be_method : Text → Bool
 may_be_method word = method_part (reserved_as word)
 
 -- what comes after a dot
-pub data MemberPlace : Type 0 where
-  AMember : MemberPlace
+pub data MemberRole : Type 0 where
+  AMember : MemberRole
   -- no member, and the error for that
-  NoMember : Cause → MemberPlace
+  NoMember : Cause → MemberRole
 
 -- A member is a name, or a reserved word that may be called as a method.
-abbrev pub member_place : Lexeme → MemberPlace
-member_place (Name t) = AMember
-member_place (Reserved t) = if may_be_method t then AMember else NoMember (cause.Reserved t)
-member_place (Faulty f) = NoMember (cause.BadInput (cause.Lexer f))
-member_place l = NoMember cause.PropertyExpected
-
-abbrev pub is_member : MemberPlace → Bool
-is_member AMember = true
-is_member _ = false
+abbrev pub member_role : Lexeme → MemberRole
+member_role (Name t) = AMember
+member_role (Reserved t) = if may_be_method t then AMember else NoMember (cause.Reserved t)
+member_role (Faulty f) = NoMember (cause.BadInput (cause.Lexer f))
+member_role l = NoMember cause.PropertyExpected
 
 -- a name, not a reserved word
 abbrev pub is_name : Lexeme → Bool

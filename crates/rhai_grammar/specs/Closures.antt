@@ -2,27 +2,18 @@
 use Rattle.std.specs.Prelude.{ℕ, zero, suc, ◌+◌, ◌/◌, ◌%◌, ◌++◌, false, None, Option, List, [], ◌∷◌}
 use Rattle.std.specs.Prelude.{codes, if◌then◌else◌, length, map, nat_lt}
 use Rattle.rhai_lower.specs.Slots.{SlotValue}
-use Rattle.rhai_lower.specs.Lexemes.{Lexeme}
 use Rattle.rhai_lower.specs.Nodes.{Block, Called, Node, Nodes, block_value, braces, call, expression, no_nodes}
 use Rattle.rhai_lower.specs.Nodes.{no_statements}
 use Rattle.rhai_lower.specs.Nodes.{one_node, one_statement, pointer, share, variable}
 use Rattle.rhai_lower.specs.Positions.{nowhere}
 use Rattle.rhai_lower.specs.Texts.{Text}
 use Rattle.rhai_lower.specs.declared.position.Position.{Position}
-use Rattle.rhai_lower.specs.declared.token.Token.{Token}
-use Rattle.rhai_lower.specs.declared.token.Token.TheVariants as token
 use Rattle.rhai_grammar.specs.Contexts.{Context, Live}
-use Rattle.rhai_grammar.specs.Delivered.{is_end}
-use Rattle.rhai_grammar.specs.Demands.{Verdict, Fine, Otherwise}
-use Rattle.rhai_grammar.specs.Forms.{Bars, ClosureHead, Declared}
-use Rattle.rhai_grammar.specs.Functions.{names_after}
 use Rattle.rhai_grammar.specs.Libraries.{Ended}
 use Rattle.rhai_grammar.specs.Settings.{closure_settings}
 use Rattle.rhai_grammar.specs.Slots.{number}
 use Rattle.rhai_grammar.specs.Uses.{Use, names_of}
 use Rattle.rhai_grammar.specs.declared.filter.ExprFilter.TheVariants.{All}
-use Rattle.rhai_grammar.specs.declared.role.Bars as role
-use Rattle.rhai_grammar.specs.declared.role.Bars.TheVariants as bars
 
 -- ---- its name
 
@@ -50,27 +41,6 @@ in_closure context live = record context {
   known = record context.known { imports = context.known.imports ++ live.imports };
   begun = context.begun + 1;
 }
-
-abbrev pub bars_of : ClosureHead → role.Bars
-bars_of (Bars at) = bars.Pair
-bars_of (Declared opening list) = bars.List
-
-abbrev pub bars_at : ClosureHead → Position
-bars_at (Bars at) = at
-bars_at (Declared opening list) = opening
-
-abbrev pub bars_token : role.Bars → Token
-bars_token bars.Pair = token.Or
-bars_token bars.List = token.Pipe
-
--- the names of its parameters
-abbrev pub declared_names : ClosureHead → List Text
-declared_names (Bars at) = []
-declared_names (Declared opening list) = names_after list []
-
--- Its body is empty exactly before the end mark.
-abbrev pub runs : Lexeme → Verdict
-runs l = if is_end l then Otherwise else Fine
 
 -- ---- what it gives
 

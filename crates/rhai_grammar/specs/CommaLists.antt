@@ -14,15 +14,6 @@ use Rattle.rhai_grammar.specs.declared.list.CommaList.{CommaList}
 use Rattle.rhai_grammar.specs.declared.list.CommaList.TheVariants.{Arguments, Arms, Array, ClosureParameters, Map}
 use Rattle.rhai_grammar.specs.declared.list.CommaList.TheVariants.{Parameters}
 
--- the token that closes a list
-abbrev pub closing_of : CommaList → Token
-closing_of Arguments = token.RightParen
-closing_of Array = token.RightBracket
-closing_of Map = token.RightBrace
-closing_of Arms = token.RightBrace
-closing_of Parameters = token.RightParen
-closing_of ClosureParameters = token.Pipe
-
 abbrev pub sign_after : CommaList → Token → AfterPart
 sign_after Arguments token.Comma = Comma
 sign_after Arguments token.RightParen = Close

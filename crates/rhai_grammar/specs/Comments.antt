@@ -1,4 +1,5 @@
 -- Which doc comments a function keeps, and how they read. They are those written before it.
+use Rattle.rhai_lower.specs.Lexemes.{Lexeme, text_of}
 use Rattle.std.specs.Prelude.{◌≡◌, ℕ, ◌-◌, min, Bool, ◌==◌, if◌then◌else◌, codes, refl}
 use Rattle.std.specs.Prelude.{List, [], ◌∷◌, ◌++◌, drop, fold, map}
 use Rattle.std.specs.List.{join_by, list_any, prefix_len}
@@ -86,3 +87,7 @@ example :
     ≡ codes "/// a" ∷ unindented (block_comment 3) ∷ codes "/// b" ∷ [])
 unfolding kept_comments kept_after shifted indent
 example = (refl, refl, refl, refl, refl, refl, refl)
+
+-- a token as a doc comment
+abbrev pub comment_of : Lexeme → Position → Comment
+comment_of lexeme at = record { text = text_of lexeme; at = at }

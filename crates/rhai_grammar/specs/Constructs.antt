@@ -13,34 +13,11 @@ use Rattle.rhai_grammar.specs.Contexts.{Context, allows_looping, has_block_value
 use Rattle.rhai_grammar.specs.Contexts.{has_switch_values}
 use Rattle.rhai_grammar.specs.Demands.{Verdict, Fine, Wrong, Otherwise}
 use Rattle.rhai_grammar.specs.DueTokens.{is_due}
-use Rattle.rhai_grammar.specs.Forms as form
 use Rattle.rhai_grammar.specs.Kinds.{not_boolean, not_iterable}
 use Rattle.rhai_grammar.specs.declared.due.DueToken.{DueToken}
 use Rattle.rhai_grammar.specs.declared.due.DueToken.TheVariants as due
 use Rattle.rhai_grammar.specs.declared.role.Construct.{Construct}
 use Rattle.rhai_grammar.specs.declared.role.Construct.TheVariants as construct
-
--- which construct a form is
-abbrev pub kind_of : form.Construct → Construct
-kind_of (form.Block body) = construct.Block
-kind_of (form.If x) = construct.If
-kind_of (form.Switch item opening arms) = construct.Switch
-kind_of (form.While guard opening body) = construct.While
-kind_of (form.Loop opening body) = construct.Loop
-kind_of (form.Do opening body negated at guard) = construct.Do
-kind_of (form.For names in_at over opening body) = construct.For
-kind_of (form.Try opening body catch_at name catch_opening branch) = construct.Try
-
--- the token that a construct begins with
-abbrev pub construct_token : Construct → Token
-construct_token construct.Block = token.LeftBrace
-construct_token construct.If = token.If
-construct_token construct.Switch = token.Switch
-construct_token construct.While = token.While
-construct_token construct.Loop = token.Loop
-construct_token construct.Do = token.Do
-construct_token construct.For = token.For
-construct_token construct.Try = token.Try
 
 -- A construct may be a statement: a loop, where the engine lets scripts have loops.
 abbrev pub may_stand : Context → Construct → Bool
@@ -59,12 +36,6 @@ may_be_value context construct.Switch = has_switch_values context
 may_be_value context construct.Try = false
 may_be_value context _ = has_loop_values context
 
--- ---- tokens inside
-
--- where this token would continue the construct: it does not stand there
-abbrev pub absent : DueToken → Lexeme → Verdict
-absent wanted token = if is_due wanted token then Otherwise else Fine
-
 -- where this token may not stand, for this cause
 abbrev pub refused_there : DueToken → Cause → Lexeme → Verdict
 refused_there unwanted why token = if is_due unwanted token then Wrong why else Fine
@@ -79,9 +50,6 @@ guard_begins token = refused_there due.LeftBrace guard_expected token
 -- A guard is not assigned to.
 abbrev pub no_assignment : Cause
 no_assignment = cause.BadInput (cause.ImproperSymbol (codes "="))
-
-abbrev pub guard_ends : Lexeme → Verdict
-guard_ends token = refused_there due.Equals no_assignment token
 
 -- the error for a node that is of the wrong kind, if it is of one
 abbrev pub type_fault : (due : Text) → Node → Option Text → Option Refusal
@@ -107,10 +75,6 @@ sign_ends_do _ = None
 abbrev pub do_end : Lexeme → Option Bool
 do_end (Sign t) = sign_ends_do t
 do_end _ = None
-
-abbrev pub do_token : (negated : Bool) → Token
-do_token true = token.Until
-do_token false = token.While
 
 abbrev pub do_ends_by : Lexeme → Option Bool → Verdict
 do_ends_by token None = Wrong (missing (codes "while") token)

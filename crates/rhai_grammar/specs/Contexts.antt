@@ -117,17 +117,17 @@ abbrev pub has_single_blocks : Context → Bool
 has_single_blocks context = settings.single_blocks context.settings
 
 -- a raise of the level is possible
-abbrev pub has_room : Context → Bool
-has_room context = settings.has_room context.settings
+abbrev pub may_raise : Context → Bool
+may_raise context = settings.may_raise context.settings
 
 -- one level deeper
 abbrev pub level_up : Context → Context
 level_up context = record context { settings = settings.level_up context.settings }
 
--- A literal with this number of parts has no room for one more.
+-- A literal with this number of parts may have no more.
 abbrev pub full : (limit count : ℕ) → Bool
 full limit count = nat_lt 0 limit && not (nat_lt count limit)
 
--- With a limit of 2, one part leaves room and two do not; without a limit there is always room.
+-- With a limit of 2, a literal of one part is not full, and one of two is; without a limit none is.
 example : (full 2 1 ≡ false) × (full 2 2 ≡ true) × (full 0 2 ≡ false)
 example = (refl, refl, refl)

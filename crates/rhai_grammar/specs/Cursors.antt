@@ -38,20 +38,20 @@ abbrev pub cursor_of : Stream → Cursor
 cursor_of s = record { tokens = tokens_of s; mode = mode_by s.in_text; peeked = s.peeked }
 
 -- the token that the next request gives
-abbrev pub asked : Cursor → Item
-asked s = ask s.mode s.tokens
+abbrev pub next_item : Cursor → Item
+next_item s = ask s.mode s.tokens
 
 -- the cursor after that token was peeked
-abbrev pub looking : Cursor → Cursor
-looking s = record s { peeked = true }
+abbrev pub after_peek : Cursor → Cursor
+after_peek s = record s { peeked = true }
 
 -- the cursor after that token was taken
-abbrev pub taking : Cursor → Cursor
-taking s = record { tokens = later s.mode s.tokens; mode = code; peeked = false }
+abbrev pub after_take : Cursor → Cursor
+after_take s = record { tokens = later s.mode s.tokens; mode = code; peeked = false }
 
 -- the cursor after the `}` of a block in an interpolated string was taken: the next request is one in text mode
 abbrev pub after_brace : Cursor → Cursor
-after_brace s = record (taking s) { mode = text }
+after_brace s = record (after_take s) { mode = text }
 
 -- the greatest number of tokens that may be left
 unfoldable pub left : Tokens → ℕ
@@ -62,5 +62,5 @@ left (Then a b s t) = max (left s) (left t) + 1
 abbrev example_ask : Ask
 example_ask = record { code = (Plus, place 1 1); text = (Plus, place 1 1) }
 
-example : asked (cursor_of (stream_of (example_ask ∷ []) (place 1 2))) ≡ item (Sign Plus) (place 1 1)
+example : next_item (cursor_of (stream_of (example_ask ∷ []) (place 1 2))) ≡ item (Sign Plus) (place 1 1)
 example = refl

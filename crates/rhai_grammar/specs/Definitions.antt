@@ -7,8 +7,6 @@ use Rattle.rhai_lower.specs.Texts.{Text}
 use Rattle.rhai_lower.specs.Slots.{SlotValue, fresh_slot, with_slot, with_alias, with_constant}
 use Rattle.rhai_grammar.specs.Contexts.{Context, Live, allows_shadowing, in_block}
 use Rattle.rhai_grammar.specs.Slots.{number, slot_from_latest}
-use Rattle.rhai_grammar.specs.Forms as form
-use Rattle.rhai_grammar.specs.Forms.{Alias, Statement, Statements}
 
 -- a slot that is exported under some name
 abbrev pub is_exported : SlotValue → Bool
@@ -86,27 +84,6 @@ defined_as true name constant live = exported name name (defined name constant l
 -- what is live after an import; without a name it gets the empty one
 abbrev pub imported : Option Text → Live → Live
 imported name live = record live { imports = live.imports ++ unwrap_or name [] ∷ [] }
-
--- the other name, if there is one
-abbrev pub alias_of : Alias → Option Text
-alias_of form.NoAlias = None
-alias_of (form.As as_at name at) = Some name
-
--- what is live after a statement; a construct gives back what it found
-abbrev pub after_statement : Statement → Live → Live
-after_statement (form.Define constant at name name_at value) live = defined name constant live
-after_statement (form.Import at source other) live = imported (alias_of other) live
-after_statement (form.Export at name name_at other) live = exported name (unwrap_or (alias_of other) name) live
-after_statement (form.ExportDefined at constant keyword name name_at value) live =
-    defined_as true name constant live
-after_statement _ live = live
-
--- what is live after statements
-abbrev pub after_statements : Statements → Live → Live
-after_statements form.NoStatement live = live
-after_statements (form.LastStatement f) live = after_statement f live
-after_statements (form.WithSemicolon f semicolon rest) live = after_statements rest (after_statement f live)
-after_statements (form.Standing f rest) live = after_statements rest (after_statement f live)
 
 -- `let x = 1; const x = 2;` has one slot, which is constant in the end. In a block of its own, the second definition
 -- gets a new slot; so it does after an export of the first.

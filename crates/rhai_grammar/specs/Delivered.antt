@@ -1,12 +1,13 @@
 -- The delivered stream, and what was taken of it.
-use Rattle.std.specs.Prelude.{◌≡◌, Bool, true, false, List, ◌∷◌, refl}
+use Rattle.std.specs.Prelude.{◌≡◌, Bool, true, false, List, ◌∷◌, refl, []}
 use Rattle.rhai_grammar.specs.Libraries.{Ended, Library, with_ended}
 use Rattle.rhai_grammar.specs.Uses.{Use, noted}
-use Rattle.std.specs.Prelude.{[]}
 use Rattle.rhai_lower.specs.Positions.{place}
-use Rattle.rhai_lower.specs.Lexemes.{Lexeme, Faulty, Sign, NoMemory}
+use Rattle.rhai_lower.specs.Lexemes.{Lexeme, Faulty, Sign, NoMemory, Name}
 use Rattle.rhai_lower.specs.declared.position.Position.{Position}
 use Rattle.rhai_lower.specs.declared.token.Token.TheVariants.{EOF, Plus}
+use Rattle.rhai_lower.specs.Names.{is_identifier}
+use Rattle.rhai_lower.specs.Lexemes as lexeme
 
 -- The mode in which a token is requested: text mode after a block of an interpolated string, otherwise code mode.
 pub data Mode : Type 0 where
@@ -100,3 +101,15 @@ example_tokens =
 example : (ask code example_tokens ≡ item (Sign Plus) (place 1 1))
     × (ask text (later code (later code example_tokens)) ≡ item (Sign EOF) (place 1 2))
 example = (refl, refl)
+
+-- a token that a tokenizer may deliver: an identifier is a valid name, and the end mark comes only at the end
+abbrev pub is_deliverable : Lexeme → Bool
+is_deliverable (Name t) = is_identifier t
+is_deliverable (Sign EOF) = false
+is_deliverable _ = true
+
+-- a stream of such tokens
+abbrev pub IsDelivered : Tokens → Type 0
+IsDelivered (Ends p) = Unit {0}
+IsDelivered (Then a b s t) =
+    ((is_deliverable a.lexeme ≡ true) × (is_deliverable b.lexeme ≡ true)) × (IsDelivered s × IsDelivered t)

@@ -132,7 +132,7 @@ Missed (Apart inner number captured ▸ rest) start error mode end =
     ⊎ ((between : Point) × Met inner (apart start) between × HasCaptured number captured between
     × Missed rest (with_captured start.captured between) error mode end)
 
--- A raise of the level that finds no room is refused as a missing literal.
+-- A raise at the limit is refused as a missing literal.
 example : (s : Point) (at : Position) → Missed (Literally (Test false (refusal ExprTooDeep at) ▸ Nothing) ▸ Nothing) s
     (refusal no_literal at) code s
 example s at = inl (refusal ExprTooDeep at, inl (refl, refl, refl, refl), refl)

@@ -1,253 +1,235 @@
--- Written forms: what a person writes, with the position of each token.
-use Rattle.std.specs.Prelude.{Bool, Option}
-use Rattle.rhai_lower.specs.Texts.{Text}
-use Rattle.rhai_lower.specs.Lexemes.{Lexeme}
+-- Written forms: productions that are filled in, and what they demand of a stream.
+use Rattle.std.specs.Prelude.{◌≡◌, ℕ, ◌+◌, max, Bool, true, false, List, [], if◌then◌else◌}
+use Rattle.rhai_lower.specs.Positions.{nowhere}
+use Rattle.rhai_lower.specs.Lexemes.{Lexeme, Sign}
 use Rattle.rhai_lower.specs.declared.position.Position.{Position}
-use Rattle.rhai_grammar.specs.Comments.{Comment}
+use Rattle.rhai_grammar.specs.Causes.{Cause, Refusal}
+use Rattle.rhai_grammar.specs.Delivered.{item, code, text}
 use Rattle.rhai_grammar.specs.Uses.{Use}
-use Rattle.std.specs.Prelude.{ℕ, List}
+use Rattle.rhai_grammar.specs.Libraries.{Ended, Library}
+use Rattle.rhai_grammar.specs.Demands.{Verdict, Fine, Wrong, Blames, Otherwise, Demands, Nothing, ◌▸◌, Tok, Ahead, Next}
+use Rattle.rhai_grammar.specs.Demands.{Test, TestIn, Adds, Captures, Uses, Shape, Literally, Apart}
+use Rattle.rhai_grammar.specs.DueTokens.{is_due, not_due}
+use Rattle.rhai_grammar.specs.Interpolations.{is_text}
+use Rattle.rhai_grammar.specs.Beginnings.{unexpected}
+use Rattle.rhai_grammar.specs.Verdicts.{anything}
+use Rattle.rhai_grammar.specs.declared.due.DueToken.TheVariants.{RightBrace}
+use Rattle.rhai_grammar.specs.Goals.{Goal, Val, is_counted}
+use Rattle.rhai_grammar.specs.Productions.{Production, View, Seen, view}
+use Rattle.rhai_lower.specs.declared.token.Token.TheVariants as token
+use Rattle.rhai_grammar.specs.Productions as S
 
--- the variables of `for`
-pub data LoopNames : Type 0 where
-  Variable : (name : Text) (at : Position) → LoopNames
-  -- the variable and the counter, in parentheses
-  Counted : (opening : Position) (name : Text) (at comma : Position) (counter : Text) (counter_at closing : Position)
-      → LoopNames
+-- ---- verdicts on the token that comes next
 
--- the names after `::` in a qualified name
-pub data Path : Type 0 where
-  NoPath : Path
-  Scoped : (colons : Position) (name : Text) (at : Position) → Path → Path
+-- whatever comes next, goes
+abbrev pub any_token : Lexeme → Verdict
+any_token l = Fine
 
--- another name, after `as`
-pub data Alias : Type 0 where
-  NoAlias : Alias
-  As : (as_at : Position) (name : Text) (at : Position) → Alias
+-- what is wanted goes; another token is refused for this cause
+abbrev pub wanted_or : (Lexeme → Bool) → (Lexeme → Cause) → Lexeme → Verdict
+wanted_or wanted missing l = if wanted l then Fine else Wrong (missing l)
 
--- the variable of `catch`, in parentheses
-pub data CatchName : Type 0 where
-  NoName : CatchName
-  Caught : (opening : Position) (name : Text) (at closing : Position) → CatchName
+-- where another token comes, the form goes on in another way
+abbrev pub only_if : (Lexeme → Bool) → Lexeme → Verdict
+only_if t l = if t l then Fine else Otherwise
 
--- the type of the objects that a function is a method of, with its dot: a name or a string
-pub data Owner : Type 0 where
-  NoOwner : Owner
-  Of : (type : Lexeme) (at dot : Position) → Owner
+abbrev pub only_if_not : (Lexeme → Bool) → Lexeme → Verdict
+only_if_not t l = if t l then Otherwise else Fine
 
--- the parameters of a function up to the `)`, or of a closure up to the `|`
-pub data Parameters : Type 0 where
-  -- no further parameter, after the `(` or a comma
-  NoParameter : (closing : Position) → Parameters
-  LastParameter : (name : Text) (at closing : Position) → Parameters
-  Parameter : (name : Text) (at comma : Position) → Parameters → Parameters
+-- a name that may be used here goes; otherwise its use is refused
+abbrev pub may_use : (Library → Lexeme → Bool) → Refusal → Library → Lexeme → Verdict
+may_use ok e fs l = if ok fs l then Fine else Blames e
 
-pub data ParameterList : Type 0 where
-  -- `()` as one token
-  EmptyParameters : (at : Position) → ParameterList
-  ListedParameters : (opening : Position) → Parameters → ParameterList
+-- a text goes; another token is refused
+abbrev pub text_or : Lexeme → Verdict
+text_or l = if is_text l then Fine else Wrong (unexpected l)
 
--- what a closure begins with, and its parameters
-pub data ClosureHead : Type 0 where
-  -- `||` as one token
-  Bars : (at : Position) → ClosureHead
-  -- parameters between two `|`
-  Declared : (opening : Position) → Parameters → ClosureHead
+-- one deeper, if its reader counts
+abbrev pub counted : Bool → ℕ → ℕ
+counted true n = 1 + n
+counted false n = n
 
-mutual
-  -- an operand without signs, call and links
-  pub data Primary : Type 0 where
-    -- a value of one token
-    Value : (token : Lexeme) (at : Position) → Primary
-    -- the name of a variable, or of a function that is called
-    Named : (name : Text) (at : Position) → Primary
-    -- a reserved word: `this`, or the name of a function that is called
-    Word : (word : Text) (at : Position) → Primary
-    -- an expression in parentheses
-    Group : (opening : Position) (inside : Run) (closing : Position) → Primary
-    -- an array, from its `[`
-    Array : (opening : Position) (elements : Elements) → Primary
-    -- an object map, from its `#{`
-    Map : (opening : Position) (fields : Fields) → Primary
-    -- an interpolated string, from its first text
-    Interpolated : (first : Text) (at : Position) → Segments → Primary
-    -- a construct as a value
-    CompoundValue : (at : Position) → Construct → Primary
-    -- A closure. Its number, and the names that it captures, each at its first use, are not written: they are fixed by
-    -- what it demands.
-    Closure : ClosureHead → ClosureBody → (number : ℕ) → (captured : List Use) → Primary
-    -- the omitted zero before a range operator; it names the operator, which is not one of this form's tokens
-    Zero : (range : Lexeme) (at : Position) → Primary
+-- `rule` says what is written where each goal is read.
+module _ (rule : (g : Goal) → Production (Val g)) where
+  mutual
+    -- what is written where a goal is read; its tree is x
+    pub data Form : (g : Goal) → Val g → Type 0 where
+      form : {g : Goal} {x : Val g} → Filled g (rule g) x → Form g x
 
-  -- what a closure does
-  pub data ClosureBody : Type 0 where
-    Runs : Statement → ClosureBody
-    -- nothing, before the end mark, which is at a position and is not one of this form's tokens
-    NoBody : (at : Position) → ClosureBody
+    -- a production with what is written, in a form of the goal h: a constructor for each that productions have
+    pub data Filled : (h : Goal) → Production (Val h) → Val h → Type 0 where
+      given : {h : Goal} {x : Val h} → Filled h (S.give x) x
+      take : {h : Goal} {w : Lexeme → Bool} {m : Lexeme → Cause} {k : Lexeme → Position → Production (Val h)}
+          {x : Val h} (l : Lexeme) (at : Position) → Filled h (k l at) x → Filled h (S.take w m k) x
+      this : {h : Goal} {k : Lexeme → Position → Production (Val h)} {x : Val h} (l : Lexeme) (at : Position)
+          → Filled h (k l at) x → Filled h (S.this k) x
+      if_so : {h : Goal} {t : Lexeme → Bool} {p q : Production (Val h)} {x : Val h} → Filled h p x
+          → Filled h (S.if_next t p q) x
+      if_not : {h : Goal} {t : Lexeme → Bool} {p q : Production (Val h)} {x : Val h} → Filled h q x
+          → Filled h (S.if_next t p q) x
+      -- the token that comes next is named, and is not one of the form's
+      choose : {h : Goal} {v : View} {k : Seen v → Production (Val h)} {x : Val h} (l : Lexeme) (at : Position)
+          → Filled h (k (view v l)) x → Filled h (S.choose v k) x
+      here : {h : Goal} {k : Position → Production (Val h)} {x : Val h} (l : Lexeme) (at : Position)
+          → Filled h (k at) x → Filled h (S.here k) x
+      must : {h : Goal} {b : Bool} {e : Refusal} {p : Production (Val h)} {x : Val h} → Filled h p x
+          → Filled h (S.must b e p) x
+      knows : {h : Goal} {t : Library → Bool} {e : Refusal} {p : Production (Val h)} {x : Val h} → Filled h p x
+          → Filled h (S.knows t e p) x
+      adds : {h : Goal} {f : Ended} {p : Production (Val h)} {x : Val h} → Filled h p x → Filled h (S.adds f p) x
+      uses : {h : Goal} {v : Lexeme → Bool} {ok : Library → Lexeme → Bool} {e : Refusal} {c : Library → Lexeme → Bool}
+          {u : Use} {k : Bool → Production (Val h)} {x : Val h} (l : Lexeme) (at : Position) → Filled h (k (v l)) x
+          → Filled h (S.uses v ok e c u k) x
+      captures : {h : Goal} {ok : Library → Bool} {e : Refusal} {c : Library → Bool} {u : Use} {p : Production (Val h)}
+          {x : Val h} → Filled h p x → Filled h (S.captures ok e c u p) x
+      part : {h g : Goal} {k : Val g → Production (Val h)} {x : Val h} (v : Val g) → Form g v → Filled h (k v) x
+          → Filled h (S.part g k) x
+      literal : {h g : Goal} {is : is_counted g ≡ true} {k : Val g → Production (Val h)} {x : Val h} (v : Val g)
+          → Form g v → Filled h (k v) x → Filled h (S.literal g is k) x
+      -- in a closure of its own: so many closures had ended at its end, and these names were used
+      apart : {h g : Goal} {k : Val g → List Use → ℕ → Production (Val h)} {x : Val h} (v : Val g) (us : List Use)
+          (n : ℕ) → Form g v → Filled h (k v us n) x → Filled h (S.apart g k) x
+      in_text : {h : Goal} {k : Position → Lexeme → Position → Production (Val h)} {x : Val h} (closing : Position)
+          (l : Lexeme) (at : Position) → Filled h (k closing l at) x → Filled h (S.in_text k) x
 
-  -- an operand without signs and links; a name may be followed by a path
-  pub data Base : Type 0 where
-    Plain : Primary → Path → Base
-    -- a call, with or without `!`
-    Call : (called : Primary) → Path → (bang : Option Position) (arguments : Arguments) → Base
+  mutual
+    -- what is written up to a demand that is missed, where a goal is read: an open form, which has no tree
+    pub data Open : (g : Goal) → Type 0 where
+      open_form : {g : Goal} → Stopped g (rule g) → Open g
 
-  -- the brackets and dots after an operand, with their contents
-  pub data Links : Type 0 where
-    NoLink : Links
-    -- `[` index `]` or `?[` index `]`
-    Bracket : (opening : Lexeme) (at : Position) (index : Run) (closing : Position) → Links → Links
-    -- a property after `.` or `?.`
-    Property : (dot : Lexeme) (at : Position) (name : Text) (name_at : Position) → Links → Links
-    -- a method call after `.` or `?.`
-    Method : (dot : Lexeme) (at : Position) (name : Lexeme) (name_at : Position) (bang : Option Position)
-        (arguments : Arguments) → Links → Links
+    -- A production with what is written up to that demand: `.._here` where it is missed, or where a part is open; what
+    -- comes before it is as in a form.
+    pub data Stopped : (h : Goal) → Production (Val h) → Type 0 where
+      never_here : {h : Goal} {why : Lexeme → Cause} → Stopped h (S.never why)
+      take_here : {h : Goal} {w : Lexeme → Bool} {m : Lexeme → Cause} {k : Lexeme → Position → Production (Val h)}
+          → Stopped h (S.take w m k)
+      must_here : {h : Goal} {b : Bool} {e : Refusal} {p : Production (Val h)} → Stopped h (S.must b e p)
+      knows_here : {h : Goal} {t : Library → Bool} {e : Refusal} {p : Production (Val h)} → Stopped h (S.knows t e p)
+      uses_here : {h : Goal} {v : Lexeme → Bool} {ok : Library → Lexeme → Bool} {e : Refusal}
+          {c : Library → Lexeme → Bool} {u : Use} {k : Bool → Production (Val h)} → Stopped h (S.uses v ok e c u k)
+      captures_here : {h : Goal} {ok : Library → Bool} {e : Refusal} {c : Library → Bool} {u : Use}
+          {p : Production (Val h)} → Stopped h (S.captures ok e c u p)
+      brace_here : {h : Goal} {k : Position → Lexeme → Position → Production (Val h)} → Stopped h (S.in_text k)
+      text_here : {h : Goal} {k : Position → Lexeme → Position → Production (Val h)} (closing : Position)
+          → Stopped h (S.in_text k)
+      part_here : {h g : Goal} {k : Val g → Production (Val h)} → Open g → Stopped h (S.part g k)
+      literal_here : {h g : Goal} {is : is_counted g ≡ true} {k : Val g → Production (Val h)} → Open g
+          → Stopped h (S.literal g is k)
+      apart_here : {h g : Goal} {k : Val g → List Use → ℕ → Production (Val h)} → Open g → Stopped h (S.apart g k)
+      take : {h : Goal} {w : Lexeme → Bool} {m : Lexeme → Cause} {k : Lexeme → Position → Production (Val h)}
+          (l : Lexeme) (at : Position) → Stopped h (k l at) → Stopped h (S.take w m k)
+      this : {h : Goal} {k : Lexeme → Position → Production (Val h)} (l : Lexeme) (at : Position) → Stopped h (k l at)
+          → Stopped h (S.this k)
+      if_so : {h : Goal} {t : Lexeme → Bool} {p q : Production (Val h)} → Stopped h p → Stopped h (S.if_next t p q)
+      if_not : {h : Goal} {t : Lexeme → Bool} {p q : Production (Val h)} → Stopped h q → Stopped h (S.if_next t p q)
+      choose : {h : Goal} {v : View} {k : Seen v → Production (Val h)} (l : Lexeme) (at : Position)
+          → Stopped h (k (view v l)) → Stopped h (S.choose v k)
+      here : {h : Goal} {k : Position → Production (Val h)} (l : Lexeme) (at : Position) → Stopped h (k at)
+          → Stopped h (S.here k)
+      must : {h : Goal} {b : Bool} {e : Refusal} {p : Production (Val h)} → Stopped h p → Stopped h (S.must b e p)
+      knows : {h : Goal} {t : Library → Bool} {e : Refusal} {p : Production (Val h)} → Stopped h p
+          → Stopped h (S.knows t e p)
+      adds : {h : Goal} {f : Ended} {p : Production (Val h)} → Stopped h p → Stopped h (S.adds f p)
+      uses : {h : Goal} {v : Lexeme → Bool} {ok : Library → Lexeme → Bool} {e : Refusal} {c : Library → Lexeme → Bool}
+          {u : Use} {k : Bool → Production (Val h)} (l : Lexeme) (at : Position) → Stopped h (k (v l))
+          → Stopped h (S.uses v ok e c u k)
+      captures : {h : Goal} {ok : Library → Bool} {e : Refusal} {c : Library → Bool} {u : Use} {p : Production (Val h)}
+          → Stopped h p → Stopped h (S.captures ok e c u p)
+      part : {h g : Goal} {k : Val g → Production (Val h)} (v : Val g) → Form g v → Stopped h (k v)
+          → Stopped h (S.part g k)
+      literal : {h g : Goal} {is : is_counted g ≡ true} {k : Val g → Production (Val h)} (v : Val g) → Form g v
+          → Stopped h (k v) → Stopped h (S.literal g is k)
+      apart : {h g : Goal} {k : Val g → List Use → ℕ → Production (Val h)} (v : Val g) (us : List Use) (n : ℕ)
+          → Form g v → Stopped h (k v us n) → Stopped h (S.apart g k)
+      in_text : {h : Goal} {k : Position → Lexeme → Position → Production (Val h)} (closing : Position) (l : Lexeme)
+          (at : Position) → Stopped h (k closing l at) → Stopped h (S.in_text k)
 
-  -- an operand of an operator
-  pub data Operand : Type 0 where
-    Linked : Base → Links → Operand
-    Signed : (sign : Lexeme) (at : Position) (operand : Operand) → Operand
-    -- the omitted unit after a range operator; it names the token there, which is not one of this form's tokens
-    NoOperand : (token : Lexeme) (at : Position) → Operand
-    -- the statement of a jump after `??`
-    Jump : Statement → Operand
+  abbrev mutual
+    -- what a form demands of a stream, before what follows it demands more
+    pub demands : {g : Goal} {x : Val g} → Form g x → Demands → Demands
+    demands (form f) more = demanded f more
 
-  pub data Arguments : Type 0 where
-    -- `()` as one token
-    EmptyPair : (at : Position) → Arguments
-    -- `(` and `)`
-    Empty : (opening closing : Position) → Arguments
-    Listed : (opening : Position) → Items → Arguments
+    pub demanded : {h : Goal} {p : Production (Val h)} {x : Val h} → Filled h p x → Demands → Demands
+    demanded given more = more
+    demanded (take {w = w} {m = m} l at f) more = Next (wanted_or w m) ▸ Tok code (item l at) anything ▸ demanded f more
+    demanded (this l at f) more = Next any_token ▸ Tok code (item l at) anything ▸ demanded f more
+    demanded (if_so {t = t} f) more = Next (only_if t) ▸ demanded f more
+    demanded (if_not {t = t} f) more = Next (only_if_not t) ▸ demanded f more
+    demanded (choose l at f) more = Next any_token ▸ Ahead (item l at) anything ▸ demanded f more
+    demanded (here l at f) more = Next any_token ▸ Ahead (item l at) anything ▸ demanded f more
+    demanded (must {b = b} {e = e} f) more = Test b e ▸ demanded f more
+    demanded (knows {t = t} {e = e} f) more = TestIn t e ▸ demanded f more
+    demanded (adds {f = x} f) more = Adds x ▸ demanded f more
+    demanded (uses {ok = ok} {e = e} {c = c} {u = u} l at f) more =
+        Ahead (item l at) anything ▸ Uses (may_use ok e) c u ▸ demanded f more
+    demanded (captures {ok = ok} {e = e} {c = c} {u = u} f) more = Captures ok e c u ▸ demanded f more
+    demanded (part v f rest) more = demands f (demanded rest more)
+    demanded (literal v f rest) more = Literally (demands f Nothing) ▸ demanded rest more
+    demanded (apart v us n f rest) more = Apart (demands f Nothing) n us ▸ demanded rest more
+    demanded (in_text closing l at f) more =
+        Next (wanted_or (is_due RightBrace) (not_due RightBrace))
+        ▸ Tok code (item (Sign token.RightBrace) closing) anything
+        ▸ Shape (is_text l) ▸ Tok text (item l at) text_or ▸ demanded f more
 
-  -- arguments up to the `)`
-  pub data Items : Type 0 where
-    Last : Run → (closing : Position) → Items
-    -- the last one, with a trailing comma
-    Trailing : Run → (comma closing : Position) → Items
-    More : Run → (comma : Position) → Items → Items
+  abbrev mutual
+    -- what an open form demands; the last demand is the one that is missed
+    pub stops : {g : Goal} → Open g → Demands
+    stops (open_form f) = stopped f
 
-  -- the items of an array up to its `]`
-  pub data Elements : Type 0 where
-    -- no further item, after the `[` or a comma
-    NoElement : (closing : Position) → Elements
-    LastElement : Run → (closing : Position) → Elements
-    Element : Run → (comma : Position) → Elements → Elements
+    pub stopped : {h : Goal} {p : Production (Val h)} → Stopped h p → Demands
+    stopped (never_here {why = why}) = Next (λ l. Wrong (why l)) ▸ Nothing
+    stopped (take_here {w = w} {m = m}) = Next (wanted_or w m) ▸ Nothing
+    stopped (must_here {b = b} {e = e}) = Test b e ▸ Nothing
+    stopped (knows_here {t = t} {e = e}) = TestIn t e ▸ Nothing
+    stopped (uses_here {ok = ok} {e = e} {c = c} {u = u}) = Uses (may_use ok e) c u ▸ Nothing
+    stopped (captures_here {ok = ok} {e = e} {c = c} {u = u}) = Captures ok e c u ▸ Nothing
+    stopped brace_here = Next (wanted_or (is_due RightBrace) (not_due RightBrace)) ▸ Nothing
+    stopped (text_here closing) =
+        Next (wanted_or (is_due RightBrace) (not_due RightBrace))
+        ▸ Tok code (item (Sign token.RightBrace) closing) anything
+        ▸ Tok text (item (Sign token.EOF) nowhere) text_or ▸ Nothing
+    stopped (part_here f) = stops f
+    stopped (literal_here f) = Literally (stops f) ▸ Nothing
+    stopped (apart_here f) = Apart (stops f) 0 [] ▸ Nothing
+    stopped (take {w = w} {m = m} l at f) = Next (wanted_or w m) ▸ Tok code (item l at) anything ▸ stopped f
+    stopped (this l at f) = Next any_token ▸ Tok code (item l at) anything ▸ stopped f
+    stopped (if_so {t = t} f) = Next (only_if t) ▸ stopped f
+    stopped (if_not {t = t} f) = Next (only_if_not t) ▸ stopped f
+    stopped (choose l at f) = Next any_token ▸ Ahead (item l at) anything ▸ stopped f
+    stopped (here l at f) = Next any_token ▸ Ahead (item l at) anything ▸ stopped f
+    stopped (must {b = b} {e = e} f) = Test b e ▸ stopped f
+    stopped (knows {t = t} {e = e} f) = TestIn t e ▸ stopped f
+    stopped (adds {f = x} f) = Adds x ▸ stopped f
+    stopped (uses {ok = ok} {e = e} {c = c} {u = u} l at f) =
+        Ahead (item l at) anything ▸ Uses (may_use ok e) c u ▸ stopped f
+    stopped (captures {ok = ok} {e = e} {c = c} {u = u} f) = Captures ok e c u ▸ stopped f
+    stopped (part v f rest) = demands f (stopped rest)
+    stopped (literal v f rest) = Literally (demands f Nothing) ▸ stopped rest
+    stopped (apart v us n f rest) = Apart (demands f Nothing) n us ▸ stopped rest
+    stopped (in_text closing l at f) =
+        Next (wanted_or (is_due RightBrace) (not_due RightBrace))
+        ▸ Tok code (item (Sign token.RightBrace) closing) anything
+        ▸ Shape (is_text l) ▸ Tok text (item l at) text_or ▸ stopped f
 
-  -- the properties of an object map up to its `}`; each key is a name or a string
-  pub data Fields : Type 0 where
-    -- no further property, after the `#{` or a comma
-    NoField : (closing : Position) → Fields
-    LastField : (key : Lexeme) (at colon : Position) (value : Run) (closing : Position) → Fields
-    Field : (key : Lexeme) (at colon : Position) (value : Run) (comma : Position) → Fields → Fields
+  abbrev mutual
+    -- how deeply the readers that count are nested for it, as the reading program calls them
+    pub depth : {g : Goal} {x : Val g} → Form g x → ℕ
+    depth (form f) = depth_in f
 
-  -- A block and a text in turn, after the first text of an interpolated string. Each text but the last one is followed
-  -- by a block.
-  pub data Segments : Type 0 where
-    LastSegment : (opening : Position) → Body → (text : Text) (at : Position) → Segments
-    Segment : (opening : Position) → Body → (text : Text) (at : Position) → Segments → Segments
-
-  -- operands joined by binary operators: one operand, or an operator between two runs
-  pub data Run : Type 0 where
-    Just : Operand → Run
-    Binary : (op : Lexeme) (at : Position) (left right : Run) → Run
-
-  -- an expression, or the assignment of one to another, with the token of the assignment
-  pub data ExprStatement : Type 0 where
-    Evaluate : Run → ExprStatement
-    Assign : (target : Run) (op : Lexeme) (at : Position) (value : Run) → ExprStatement
-
-  -- the value of a definition, with its `=`
-  pub data Initializer : Type 0 where
-    NoValue : Initializer
-    Valued : (equals : Position) → Run → Initializer
-
-  -- what a `return`, `throw` or `break` gives
-  pub data JumpValue : Type 0 where
-    Absent : JumpValue
-    Present : Run → JumpValue
-
-  pub data Statement : Type 0 where
-    -- a lone `;`
-    EmptyStatement : (at : Position) → Statement
-    Expression : ExprStatement → Statement
-    -- `let` or `const`
-    Define : (constant : Bool) (at : Position) (name : Text) (name_at : Position) → Initializer → Statement
-    -- a construct, whose first token is at a position
-    Compound : (at : Position) → Construct → Statement
-    -- `return` or `throw`
-    Return : (throws : Bool) (at : Position) → JumpValue → Statement
-    Break : (at : Position) → JumpValue → Statement
-    Continue : (at : Position) → Statement
-    -- `import` of the module that an expression gives, with a name for it or none
-    Import : (at : Position) (source : Run) → Alias → Statement
-    -- `export` of a variable, under its own name or another
-    Export : (at : Position) (name : Text) (name_at : Position) → Alias → Statement
-    -- `export` of a definition, whose `let` or `const` is at `keyword`
-    ExportDefined : (at : Position) (constant : Bool) (keyword : Position) (name : Text) (name_at : Position)
-        → Initializer → Statement
-    -- a function after its doc comments, with its `private`, if it has one, and its `fn` at a position
-    Function : List Comment → (is_private : Option Position) (at : Position) → Owner → (name : Text)
-        (name_at : Position) → ParameterList → (opening : Position) → Body → Statement
-
-  -- a construct after its first token
-  pub data Construct : Type 0 where
-    Block : Body → Construct
-    If : Conditional → Construct
-    Switch : (item : Run) (opening : Position) → Arms → Construct
-    While : (guard : Run) (opening : Position) → Body → Construct
-    Loop : (opening : Position) → Body → Construct
-    -- with `while`, or with `until`, which negates the guard
-    Do : (opening : Position) → Body → (negated : Bool) (at : Position) (guard : Run) → Construct
-    For : LoopNames → (in_at : Position) (over : Run) (opening : Position) → Body → Construct
-    Try : (opening : Position) → Body → (catch_at : Position) → CatchName → (catch_opening : Position) → Body
-        → Construct
-
-  -- a guard with its block, after `if`, and what follows
-  pub data Conditional : Type 0 where
-    Guarded : (guard : Run) (opening : Position) → Body → Branch → Conditional
-
-  -- what follows the block of an `if`
-  pub data Branch : Type 0 where
-    NoElse : Branch
-    Else : (at opening : Position) → Body → Branch
-    ElseIf : (at if_at : Position) → Conditional → Branch
-
-  -- The arms of a `switch` up to its `}`. A comma may follow each of them; it has to, unless the arm ends by itself or
-  -- the `}` follows. The default arm is the last one.
-  pub data Arms : Type 0 where
-    -- no further arm
-    NoArm : (closing : Position) → Arms
-    Arm : Cases → CaseGuard → (arrow : Position) → Action → (comma : Option Position) → Arms → Arms
-    -- the default arm, from its `_`
-    DefaultArm : (at arrow : Position) → Action → (comma : Option Position) (closing : Position) → Arms
-
-  -- the cases of an arm
-  pub data Cases : Type 0 where
-    LastCase : Run → Cases
-    -- one with the `|` after it
-    Case : Run → (pipe : Position) → Cases → Cases
-
-  -- the guard of an arm, from its `if`
-  pub data CaseGuard : Type 0 where
-    NoGuard : CaseGuard
-    Guard : (at : Position) → Run → CaseGuard
-
-  -- what an arm does
-  pub data Action : Type 0 where
-    Does : Statement → Action
-    -- where a block is one expression or assignment: an expression
-    Gives : Run → Action
-
-  -- the statements of a block or of a script, up to what closes it
-  pub data Statements : Type 0 where
-    NoStatement : Statements
-    -- the last one, without a `;`
-    LastStatement : Statement → Statements
-    -- one with its `;`
-    WithSemicolon : Statement → (semicolon : Position) → Statements → Statements
-    -- one that ends by itself
-    Standing : Statement → Statements → Statements
-
-  -- a block after its `{`
-  pub data Body : Type 0 where
-    Many : Statements → (closing : Position) → Body
-    -- where a block is one expression or assignment
-    Single : ExprStatement → (closing : Position) → Body
+    pub depth_in : {h : Goal} {p : Production (Val h)} {x : Val h} → Filled h p x → ℕ
+    depth_in given = 0
+    depth_in (take l at f) = depth_in f
+    depth_in (this l at f) = depth_in f
+    depth_in (if_so f) = depth_in f
+    depth_in (if_not f) = depth_in f
+    depth_in (choose l at f) = depth_in f
+    depth_in (here l at f) = depth_in f
+    depth_in (must f) = depth_in f
+    depth_in (knows f) = depth_in f
+    depth_in (adds f) = depth_in f
+    depth_in (uses l at f) = depth_in f
+    depth_in (captures f) = depth_in f
+    depth_in (part {g = g} v f rest) = max (counted (is_counted g) (depth f)) (depth_in rest)
+    depth_in (literal v f rest) = max (1 + depth f) (depth_in rest)
+    depth_in (apart v us n f rest) = max (depth f) (depth_in rest)
+    depth_in (in_text closing l at f) = depth_in f

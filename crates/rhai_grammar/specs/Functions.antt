@@ -1,6 +1,6 @@
 -- Functions: where they are allowed, their parts, and what they give.
-use Rattle.std.specs.Prelude.{◌≡◌, ◌+◌, Bool, true, false, ◌++◌, not, None, Option, Some, List, [], ◌∷◌, codes, length}
-use Rattle.std.specs.Prelude.{if◌then◌else◌, map, nat_lt, refl}
+use Rattle.std.specs.Prelude.{◌+◌, Bool, true, false, ◌++◌, not, Option, List, [], codes, length}
+use Rattle.std.specs.Prelude.{if◌then◌else◌, map, nat_lt}
 use Rattle.rhai_lower.specs.Texts.{Text, same_text}
 use Rattle.rhai_lower.specs.Names.{is_function_name}
 use Rattle.rhai_lower.specs.Lexemes.{Faulty, Lexeme, Name, Reserved, Sign, String, text_of}
@@ -11,24 +11,16 @@ use Rattle.rhai_lower.specs.declared.token.Token.TheVariants as token
 use Rattle.rhai_lower.specs.Slots.{fresh_slot}
 use Rattle.rhai_grammar.specs.Causes as cause
 use Rattle.rhai_grammar.specs.Causes.{Cause, Refusal, refusal}
-use Rattle.rhai_grammar.specs.Beginnings.{calling, missing}
-use Rattle.rhai_grammar.specs.declared.role.Calling.{Calling}
-use Rattle.rhai_grammar.specs.declared.role.Calling.TheVariants as calls_by
+use Rattle.rhai_grammar.specs.Beginnings.{missing}
 use Rattle.rhai_grammar.specs.Contexts.{Context, Live}
 use Rattle.rhai_grammar.specs.CommaLists.{after_part, closing_text}
 use Rattle.rhai_grammar.specs.Comments.{Comment, kept_comments}
 use Rattle.rhai_grammar.specs.declared.list.AfterPart.{AfterPart}
 use Rattle.rhai_grammar.specs.declared.list.AfterPart.TheVariants as after
 use Rattle.rhai_grammar.specs.declared.list.CommaList.{CommaList}
-use Rattle.rhai_grammar.specs.declared.list.CommaList.TheVariants as lists
-use Rattle.rhai_grammar.specs.Demands.{Verdict, Fine, Wrong, Blames, Otherwise}
-use Rattle.rhai_grammar.specs.DueTokens.{is_due, not_due}
-use Rattle.rhai_grammar.specs.declared.due.DueToken.TheVariants as due
 use Rattle.rhai_grammar.specs.declared.filter.ExprFilter.TheVariants.{All}
-use Rattle.rhai_grammar.specs.declared.role.ItemPlace.{ItemPlace}
-use Rattle.rhai_grammar.specs.declared.role.ItemPlace.TheVariants as place
-use Rattle.rhai_grammar.specs.Forms as form
-use Rattle.rhai_grammar.specs.Forms.{Owner, ParameterList, Parameters}
+use Rattle.rhai_grammar.specs.declared.role.ItemRole.{ItemRole}
+use Rattle.rhai_grammar.specs.declared.role.ItemRole.TheVariants as place
 use Rattle.rhai_grammar.specs.Keys.{Key, has_key}
 use Rattle.rhai_grammar.specs.Libraries.{Ended, Library, keys_in}
 use Rattle.rhai_grammar.specs.Settings.{function_settings}
@@ -78,44 +70,12 @@ no_function_name (Faulty f) = cause.BadInput (cause.Lexer f)
 no_function_name (Reserved t) = cause.Reserved t
 no_function_name l = cause.FnMissingName
 
--- after `fn`: a type or a name
-abbrev pub type_or_name_due : Lexeme → Verdict
-type_or_name_due l = if is_type l then Otherwise else Wrong (no_function_name l)
-
--- After a name without a type: no dot, which would make it a type. A name that the language reserves is none.
-abbrev pub untyped : (name : Text) → Position → Lexeme → Verdict
-untyped name at l = if is_due due.Period l then Otherwise else
-    if names_function name then Fine else Blames (refusal cause.FnMissingName at)
-
--- after a type: a dot, where the type is a string
-abbrev pub after_type : (type : Lexeme) → Lexeme → Verdict
-after_type (String t) l = if is_due due.Period l then Otherwise else Wrong (not_due due.Period l)
-after_type type l = Otherwise
-
--- after the dot: a name
-abbrev pub function_name_due : Lexeme → Verdict
-function_name_due (Name t) = Otherwise
-function_name_due l = Wrong (no_function_name l)
-
-abbrev pub owner_of : Owner → Option Text
-owner_of form.NoOwner = None
-owner_of (form.Of type at dot) = Some (type_name type)
-
 -- ---- its parameters
 
 -- the error for a token that begins no list of parameters
 abbrev pub no_parameters : (function : Text) → Lexeme → Cause
 no_parameters function (Faulty f) = cause.BadInput (cause.Lexer f)
 no_parameters function l = cause.FnMissingParams function
-
-abbrev pub parameters_by : (function : Text) → Lexeme → Calling → Verdict
-parameters_by function l calls_by.Pair = Otherwise
-parameters_by function l calls_by.List = Otherwise
-parameters_by function l _ = Wrong (no_parameters function l)
-
--- after the name: `()` or `(`
-abbrev pub parameters_due : (function : Text) → Lexeme → Verdict
-parameters_due function l = parameters_by function l (calling l)
 
 -- a keyword of the language
 abbrev is_keyword_sign : Token → Bool
@@ -150,14 +110,14 @@ abbrev pub is_keyword : Lexeme → Bool
 is_keyword (Sign t) = is_keyword_sign t
 is_keyword _ = false
 
-abbrev pub place_by : AfterPart → ItemPlace
+abbrev pub place_by : AfterPart → ItemRole
 place_by after.Close = place.End
 place_by _ = place.Nothing
 
 -- what a token is where a parameter of a function or of a closure may be
-abbrev pub parameter_place : CommaList → Lexeme → ItemPlace
-parameter_place parts (Name t) = place.Item
-parameter_place parts l = place_by (after_part parts l)
+abbrev pub parameter_role : CommaList → Lexeme → ItemRole
+parameter_role parts (Name t) = place.Item
+parameter_role parts l = place_by (after_part parts l)
 
 abbrev pub is_reserved_token : Lexeme → Bool
 is_reserved_token (Reserved t) = true
@@ -168,34 +128,12 @@ abbrev pub no_parameter : CommaList → Lexeme → Cause
 no_parameter parts l = if is_reserved_token l then cause.Reserved (text_of l) else
     if is_keyword l then cause.VariableExpected else missing (closing_text parts) l
 
-abbrev pub parameter_by : CommaList → Lexeme → ItemPlace → Verdict
-parameter_by parts l place.Nothing = Wrong (no_parameter parts l)
-parameter_by parts l _ = Otherwise
-
--- where a parameter may be: a name, or what closes the list
-abbrev pub parameter_due : CommaList → Lexeme → Verdict
-parameter_due parts l = parameter_by parts l (parameter_place parts l)
-
--- the names of parameters, after those before
-abbrev pub names_after : Parameters → (before : List Text) → List Text
-names_after (form.NoParameter closing) before = before
-names_after (form.LastParameter name at closing) before = before ++ name ∷ []
-names_after (form.Parameter name at comma rest) before = names_after rest (before ++ name ∷ [])
-
-abbrev pub parameter_names : ParameterList → List Text
-parameter_names (form.EmptyParameters at) = []
-parameter_names (form.ListedParameters opening list) = names_after list []
-
 -- ---- its body, and what it gives
 
 -- the error for a token that begins no body
 abbrev pub no_body : (function : Text) → Lexeme → Cause
 no_body function (Faulty f) = cause.BadInput (cause.Lexer f)
 no_body function l = cause.FnMissingBody function
-
--- after the parameters: `{`
-abbrev pub body_due : (function : Text) → Lexeme → Verdict
-body_due function l = if is_due due.LeftBrace l then Otherwise else Wrong (no_body function l)
 
 -- a function after these doc comments, with its key: the type, the name and the number of parameters
 abbrev pub ended_function : List Comment → (is_private : Bool) → (owner : Option Text) → (name : Text)
@@ -219,12 +157,3 @@ is_new key library = not (has_key key (keys_in library))
 -- the error for a function whose key another one has; `at` is its `fn`
 abbrev pub duplicate_of : Key → (at : Position) → Refusal
 duplicate_of key at = refusal (cause.FnDuplicatedDefinition key.name key.params) at
-
--- `(a, b,)`: a trailing comma adds nothing. `this` is refused as a parameter, and so is `if`.
-example : (places : Position)
-    → (names_after (form.Parameter (codes "a") places places (form.Parameter (codes "b") places places
-    (form.NoParameter places))) [] ≡ codes "a" ∷ codes "b" ∷ [])
-    × (parameter_due lists.Parameters (Reserved (codes "this")) ≡ Wrong (cause.Reserved (codes "this")))
-    × (parameter_due lists.Parameters (Sign token.If) ≡ Wrong cause.VariableExpected)
-    × (type_name (Name (codes "int")) ≡ codes "i64")
-example places = (refl, refl, refl, refl)

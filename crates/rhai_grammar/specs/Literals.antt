@@ -11,24 +11,24 @@ use Rattle.rhai_grammar.specs.Causes.{Cause}
 use Rattle.rhai_grammar.specs.Contexts.{full}
 use Rattle.rhai_grammar.specs.Beginnings.{missing}
 use Rattle.rhai_grammar.specs.Delivered.{is_end}
-use Rattle.rhai_grammar.specs.declared.role.ItemPlace.{ItemPlace}
-use Rattle.rhai_grammar.specs.declared.role.ItemPlace.TheVariants as place
+use Rattle.rhai_grammar.specs.declared.role.ItemRole.{ItemRole}
+use Rattle.rhai_grammar.specs.declared.role.ItemRole.TheVariants as place
 
 -- ---- arrays
 
 -- where there are this many items already
-abbrev pub item_room : (limit count : ℕ) → ItemPlace
+abbrev pub item_room : (limit count : ℕ) → ItemRole
 item_room limit count = if full limit count then place.Nothing else place.Item
 
-abbrev pub sign_item : (limit count : ℕ) → Token → ItemPlace
+abbrev pub sign_item : (limit count : ℕ) → Token → ItemRole
 sign_item limit count RightBracket = place.End
 sign_item limit count EOF = place.Nothing
 sign_item limit count _ = item_room limit count
 
 -- what a token is where an item may begin
-abbrev pub item_place : (limit count : ℕ) → Lexeme → ItemPlace
-item_place limit count (Sign t) = sign_item limit count t
-item_place limit count _ = item_room limit count
+abbrev pub item_role : (limit count : ℕ) → Lexeme → ItemRole
+item_role limit count (Sign t) = sign_item limit count t
+item_role limit count _ = item_room limit count
 
 abbrev pub too_many_items : (limit : ℕ) → Cause
 too_many_items limit = cause.LiteralTooLarge (codes "Size of array literal") limit
@@ -48,12 +48,12 @@ has_key t no_properties = false
 has_key t (one_property key at value ps) = same_text key t || has_key t ps
 
 -- what a token is where a key may begin
-pub data KeyPlace : Type 0 where
+pub data KeyRole : Type 0 where
   -- the `}`
-  FieldsEnd : KeyPlace
-  AKey : Text → KeyPlace
+  FieldsEnd : KeyRole
+  AKey : Text → KeyRole
   -- no key, and the error for that
-  NoKey : Cause → KeyPlace
+  NoKey : Cause → KeyRole
 
 abbrev pub no_property : Lexeme → Cause
 no_property (Faulty f) = cause.BadInput (cause.Lexer f)
@@ -63,31 +63,27 @@ no_property l = cause.PropertyExpected
 abbrev pub no_key : (first : Bool) → Lexeme → Cause
 no_key first l = if first then missing (codes "}") l else no_property l
 
-abbrev pub sign_key : (first : Bool) → Token → KeyPlace
+abbrev pub sign_key : (first : Bool) → Token → KeyRole
 sign_key first RightBrace = FieldsEnd
 sign_key first EOF = NoKey (cause.MissingToken (codes "}"))
 sign_key first t = NoKey (no_key first (Sign t))
 
 -- A key is a string, or a name unless keys have to be quoted.
-abbrev pub key_place : (quoted first : Bool) → Lexeme → KeyPlace
-key_place quoted first (String t) = AKey t
-key_place quoted first (Name t) = if quoted then NoKey cause.PropertyExpected else AKey t
-key_place quoted first (Interpolated t) = NoKey cause.PropertyExpected
-key_place quoted first (Reserved t) = NoKey (if is_identifier t then cause.Reserved t else no_key first (Reserved t))
-key_place quoted first (Sign t) = sign_key first t
-key_place quoted first l = NoKey (no_key first l)
-
-abbrev pub is_key : KeyPlace → Bool
-is_key (AKey t) = true
-is_key _ = false
+abbrev pub key_role : (quoted first : Bool) → Lexeme → KeyRole
+key_role quoted first (String t) = AKey t
+key_role quoted first (Name t) = if quoted then NoKey cause.PropertyExpected else AKey t
+key_role quoted first (Interpolated t) = NoKey cause.PropertyExpected
+key_role quoted first (Reserved t) = NoKey (if is_identifier t then cause.Reserved t else no_key first (Reserved t))
+key_role quoted first (Sign t) = sign_key first t
+key_role quoted first l = NoKey (no_key first l)
 
 abbrev pub too_many_fields : (limit : ℕ) → Cause
 too_many_fields limit = cause.LiteralTooLarge (codes "Number of properties in object map literal") limit
 
 -- With a limit of 1, a second item is one too many; `}` ends an object map; `+` is not a key, and in place of the first
 -- key it is a missing `}`.
-example : (item_place 1 1 (Name (codes "a")) ≡ place.Nothing) × (no_item 1 (Name (codes "a")) ≡ too_many_items 1)
-    × (item_place 1 1 (Sign RightBracket) ≡ place.End) × (key_place false true (Sign RightBrace) ≡ FieldsEnd)
-    × (key_place false true (Sign Plus) ≡ NoKey (cause.MissingToken (codes "}")))
-    × (key_place false false (Sign Plus) ≡ NoKey cause.PropertyExpected)
+example : (item_role 1 1 (Name (codes "a")) ≡ place.Nothing) × (no_item 1 (Name (codes "a")) ≡ too_many_items 1)
+    × (item_role 1 1 (Sign RightBracket) ≡ place.End) × (key_role false true (Sign RightBrace) ≡ FieldsEnd)
+    × (key_role false true (Sign Plus) ≡ NoKey (cause.MissingToken (codes "}")))
+    × (key_role false false (Sign Plus) ≡ NoKey cause.PropertyExpected)
 example = (refl, refl, refl, refl, refl, refl)

@@ -1,30 +1,21 @@
 -- Names with a path, such as `a::b::c`, under strict variables too. Under these the modules have to be known.
-use Rattle.std.specs.Prelude.{◌≡◌, ℕ, Bool, true, false, ◌||◌, ◌&&◌, ◌++◌, not, Option, Some, None, List, [], ◌∷◌}
+use Rattle.std.specs.Prelude.{Bool, true, false, ◌||◌, ◌&&◌, ◌++◌, not, Option, Some, None, List, [], ◌∷◌}
 use Rattle.std.specs.Prelude.{codes}
-use Rattle.std.specs.Prelude.{if◌then◌else◌, refl}
+use Rattle.std.specs.Prelude.{if◌then◌else◌}
 use Rattle.std.specs.Option.{is_some}
 use Rattle.rhai_lower.specs.Texts.{Text, same_text}
-use Rattle.rhai_lower.specs.Positions.{place}
 use Rattle.rhai_lower.specs.Slots.{is_declared}
 use Rattle.rhai_lower.specs.Nodes.{Node, variable}
 use Rattle.rhai_lower.specs.declared.position.Position.{Position}
 use Rattle.rhai_grammar.specs.Causes as cause
 use Rattle.rhai_grammar.specs.Causes.{Refusal, refusal}
 use Rattle.rhai_grammar.specs.Contexts.{Context, Live, is_strict}
-use Rattle.rhai_grammar.specs.Forms.{NoPath, Path, Scoped}
 use Rattle.rhai_grammar.specs.Imports.{is_among, module_number}
 use Rattle.rhai_grammar.specs.Libraries.{Library, is_function}
 use Rattle.rhai_grammar.specs.Slots.{number}
 use Rattle.rhai_grammar.specs.Settings.{in_closure}
 use Rattle.rhai_grammar.specs.Beginnings.{excludes_use}
 use Rattle.rhai_lower.specs.Lexemes.{Lexeme}
-
--- ---- names with a path
-
--- there are names after `::`
-abbrev pub is_scoped : Path → Bool
-is_scoped NoPath = false
-is_scoped (Scoped colons name at rest) = true
 
 -- the first name of a path; without a path, the name itself
 abbrev pub root_of : (path : List (Text × Position)) → (name : Text) → Text
@@ -42,11 +33,6 @@ qualified imports (variable v p) name at = variable (record {
   module_index = module_number (root_of v.path v.name) imports;
 }) at
 qualified imports x name at = x
-
--- a name with all names after it
-abbrev pub path_tree : Path → (imports : List Text) → Node → Node
-path_tree NoPath imports x = x
-path_tree (Scoped colons name at rest) imports x = path_tree rest imports (qualified imports x name at)
 
 abbrev is_empty : List (Text × Position) → Bool
 is_empty [] = true
@@ -95,18 +81,3 @@ path_fault context live (root ∷ path) =
 abbrev pub module_fault : Context → Live → Node → Option Refusal
 module_fault context live (variable v p) = path_fault context live v.path
 module_fault context live _ = None
-
-abbrev example_name : (name : Text) (column : ℕ) → Node
-example_name name column =
-    variable (record { number = Some 3; name = name; path = []; module_index = None }) (place 1 column)
-
--- `m::n::x` after two imports of `m`: the path has `m` and `n`, and begins at the second import.
-example : (path_tree (Scoped (place 1 2) (codes "n") (place 1 4) (Scoped (place 1 5) (codes "x") (place 1 7) NoPath))
-    (codes "m" ∷ codes "m" ∷ []) (example_name (codes "m") 1) ≡ variable (record {
-      number = None;
-      name = codes "x";
-      path = (codes "m", place 1 1) ∷ (codes "n", place 1 4) ∷ [];
-      module_index = Some 1;
-    }) (place 1 7))
-unfolding module_number
-example = refl

@@ -6,7 +6,7 @@ use Rattle.rhai_lower.specs.declared.token.Token.TheVariants.{Plus, RightBrace}
 use Rattle.rhai_grammar.specs.Causes as cause
 use Rattle.rhai_grammar.specs.Causes.{Cause, Refusal}
 use Rattle.rhai_grammar.specs.Delivered.{Mode, code, text, item, Tokens, Taken, ask, later, is_memory}
-use Rattle.rhai_grammar.specs.Cursors.{Cursor, asked}
+use Rattle.rhai_grammar.specs.Cursors.{Cursor, next_item}
 
 -- A stream gives these tokens, one after the other, in these modes.
 abbrev pub Gives : List Taken → Tokens → Type 0
@@ -20,7 +20,7 @@ leads (k ∷ taken) s = leads taken (later k.mode s)
 
 -- A stream begins with the tokens seen: those that were taken, and the one that was peeked, if one was.
 abbrev pub BeginsWith : List Taken → Cursor → Tokens → Type 0
-BeginsWith taken left s = Gives taken s × (left.peeked ≡ true → ask left.mode (leads taken s) ≡ asked left)
+BeginsWith taken left s = Gives taken s × (left.peeked ≡ true → ask left.mode (leads taken s) ≡ next_item left)
 
 -- the tokens that were taken, the latest first
 abbrev pub latest_first : List Taken → List Taken → List Taken
@@ -61,7 +61,7 @@ is_at_last _ = false
 
 -- Such an error has the position of the last token seen, which was peeked.
 abbrev pub StandsAtLast : Refusal → Cursor → Type 0
-StandsAtLast e left = is_at_last e.cause ≡ true → (left.peeked ≡ true) × (e.at ≡ (asked left).at)
+StandsAtLast e left = is_at_last e.cause ≡ true → (left.peeked ≡ true) × (e.at ≡ (next_item left).at)
 
 abbrev example_taken : List Taken
 example_taken =

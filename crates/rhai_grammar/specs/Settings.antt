@@ -58,8 +58,8 @@ abbrev pub strict_names : Settings → Bool
 strict_names settings = bit_and settings.options 64 == 64
 
 -- a raise is possible
-abbrev pub has_room : Settings → Bool
-has_room settings = (settings.limit == 0) || nat_lt settings.level settings.limit
+abbrev pub may_raise : Settings → Bool
+may_raise settings = (settings.limit == 0) || nat_lt settings.level settings.limit
 
 -- one level more; saturates at the greatest `usize`
 unfoldable pub one_more : ℕ → ℕ
@@ -101,8 +101,8 @@ abbrev at_level : ℕ → ℕ → Settings
 at_level limit level = record { flags = 0; options = 0; level = level; limit = limit }
 
 -- Under a limit of 2 the level may be raised twice, without a limit always, and the greatest level stays.
-example : (level_up (at_level 2 0) ≡ at_level 2 1) × (has_room (at_level 2 1) ≡ true)
-    × (has_room (at_level 2 2) ≡ false) × (has_room (at_level 0 2) ≡ true)
+example : (level_up (at_level 2 0) ≡ at_level 2 1) × (may_raise (at_level 2 1) ≡ true)
+    × (may_raise (at_level 2 2) ≡ false) × (may_raise (at_level 0 2) ≡ true)
     × (level_up (at_level 0 (2 ^ 64 - 1)) ≡ at_level 0 (2 ^ 64 - 1))
 unfolding one_more
 example = (refl, refl, refl, refl, refl)

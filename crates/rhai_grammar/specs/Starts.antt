@@ -9,11 +9,10 @@ use Rattle.rhai_grammar.specs.Constructs.{may_be_value}
 use Rattle.rhai_grammar.specs.Contexts.{Context, allows_pipe, has_closures}
 use Rattle.rhai_grammar.specs.declared.role.Bars.{Bars}
 use Rattle.rhai_grammar.specs.declared.role.Bars.TheVariants as bars
-use Rattle.rhai_grammar.specs.Demands.{Verdict, Fine, Otherwise}
 use Rattle.rhai_grammar.specs.declared.role.Beginning.{Beginning}
 use Rattle.rhai_grammar.specs.declared.role.Beginning.TheVariants as begin
-use Rattle.rhai_grammar.specs.declared.role.OperandPlace.{OperandPlace}
-use Rattle.rhai_grammar.specs.declared.role.OperandPlace.TheVariants as place
+use Rattle.rhai_grammar.specs.declared.role.OperandRole.{OperandRole}
+use Rattle.rhai_grammar.specs.declared.role.OperandRole.TheVariants as place
 use Rattle.rhai_grammar.specs.declared.role.OperandStart.{OperandStart}
 use Rattle.rhai_grammar.specs.declared.role.OperandStart.TheVariants as start
 
@@ -35,18 +34,18 @@ abbrev pub starts : Context → Lexeme → Bool
 starts context (Faulty f) = true
 starts context token = begins context (beginning token)
 
--- ---- the place of an operand
+-- ---- the role of an operand
 
-abbrev pub sign_place : Token → OperandPlace
+abbrev pub sign_place : Token → OperandRole
 sign_place token.ExclusiveRange = place.AfterRange
 sign_place token.InclusiveRange = place.AfterRange
 sign_place token.DoubleQuestion = place.AfterCoalesce
 sign_place _ = place.Elsewhere
 
--- the place directly after an operator
-abbrev pub place_after : Lexeme → OperandPlace
-place_after (Sign t) = sign_place t
-place_after _ = place.Elsewhere
+-- the role of the operand directly after an operator
+abbrev pub role_after : Lexeme → OperandRole
+role_after (Sign t) = sign_place t
+role_after _ = place.Elsewhere
 
 abbrev pub sign_jumps : Token → Bool
 sign_jumps token.Return = true
@@ -60,42 +59,16 @@ abbrev pub jumps : Lexeme → Bool
 jumps (Sign t) = sign_jumps t
 jumps _ = false
 
--- the token of `return` or `throw`
-abbrev pub jump_token : (throws : Bool) → Token
-jump_token true = token.Throw
-jump_token false = token.Return
-
--- What a token is at a place: directly after a range operator some tokens say that the operand is omitted, and directly
--- after `??` a jump may stand.
-abbrev pub operand_start : OperandPlace → Lexeme → OperandStart
+-- What a token is for an operand of this role: directly after a range operator some tokens say that the operand is
+-- omitted, and directly after `??` a jump may stand.
+abbrev pub operand_start : OperandRole → Lexeme → OperandStart
 operand_start place.AfterRange token = if omits_operand token then start.Omitted else start.Written
 operand_start place.AfterCoalesce token = if jumps token then start.Jump else start.Written
 operand_start place.Elsewhere token = start.Written
 
-abbrev pub is_omitted : OperandStart → Bool
-is_omitted start.Omitted = true
-is_omitted _ = false
-
--- a jump in place of an operand
-abbrev pub jump_at : OperandStart → Verdict
-jump_at start.Jump = Fine
-jump_at _ = Otherwise
-
-abbrev pub jump_stands : OperandPlace → Lexeme → Verdict
-jump_stands place token = jump_at (operand_start place token)
-
--- ---- the value of a jump
-
--- an absent one is followed by what begins no expression
-abbrev pub no_value_follows : Context → Lexeme → Verdict
-no_value_follows context token = if starts context token then Otherwise else Fine
-
-abbrev pub value_follows : Context → Lexeme → Verdict
-value_follows context token = if starts context token then Fine else Otherwise
-
 -- `return` stands in place of an operand after `??` alone, and an error of the tokenizer begins an expression.
-example : (operand_start (place_after (Sign token.DoubleQuestion)) (Sign token.Return) ≡ start.Jump)
-    × (operand_start (place_after (Sign token.Plus)) (Sign token.Return) ≡ start.Written)
+example : (operand_start (role_after (Sign token.DoubleQuestion)) (Sign token.Return) ≡ start.Jump)
+    × (operand_start (role_after (Sign token.Plus)) (Sign token.Return) ≡ start.Written)
     × ((context : Context) → starts context (Faulty UnterminatedString) ≡ true)
     × ((context : Context) → starts context (Sign token.RightParen) ≡ false)
 example = (refl, refl, λ context. refl, λ context. refl)

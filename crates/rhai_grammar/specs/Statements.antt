@@ -15,15 +15,12 @@ use Rattle.rhai_grammar.specs.Causes as cause
 use Rattle.rhai_grammar.specs.Causes.{Cause, refusal}
 use Rattle.rhai_grammar.specs.Beginnings.{missing}
 use Rattle.rhai_grammar.specs.Demands.{Verdict, Fine, Wrong, Blames, Otherwise}
-use Rattle.rhai_grammar.specs.DueTokens.{is_due}
-use Rattle.rhai_grammar.specs.declared.due.DueToken.TheVariants as due
-use Rattle.rhai_grammar.specs.Targets.{is_assignment, is_equals}
 use Rattle.rhai_grammar.specs.declared.role.AfterStatement.{AfterStatement}
 use Rattle.rhai_grammar.specs.declared.role.AfterStatement.TheVariants as after
 use Rattle.rhai_grammar.specs.declared.role.Closing.{Closing}
 use Rattle.rhai_grammar.specs.declared.role.Closing.TheVariants.{Brace, EndMark}
-use Rattle.rhai_grammar.specs.declared.role.StatementPlace.{StatementPlace}
-use Rattle.rhai_grammar.specs.declared.role.StatementPlace.TheVariants as place
+use Rattle.rhai_grammar.specs.declared.role.StatementRole.{StatementRole}
+use Rattle.rhai_grammar.specs.declared.role.StatementRole.TheVariants as place
 use Rattle.rhai_grammar.specs.declared.role.StatementStart.{StatementStart}
 use Rattle.rhai_grammar.specs.declared.role.StatementStart.TheVariants as start
 
@@ -71,7 +68,7 @@ allowed_start context other = other
 abbrev pub statement_start : Context → Lexeme → StatementStart
 statement_start context token = allowed_start context (any_start token)
 
-abbrev pub sign_place : Closing → Token → StatementPlace
+abbrev pub sign_place : Closing → Token → StatementRole
 sign_place Brace token.RightBrace = place.Close
 sign_place Brace token.EOF = place.Nothing
 sign_place Brace _ = place.Statement
@@ -79,9 +76,9 @@ sign_place EndMark token.EOF = place.Close
 sign_place EndMark _ = place.Statement
 
 -- what a token is where a statement of a list may begin
-abbrev pub statement_place : Closing → Lexeme → StatementPlace
-statement_place closing (Sign t) = sign_place closing t
-statement_place closing _ = place.Statement
+abbrev pub statement_role : Closing → Lexeme → StatementRole
+statement_role closing (Sign t) = sign_place closing t
+statement_role closing _ = place.Statement
 
 abbrev pub sign_after : Closing → Token → AfterStatement
 sign_after Brace token.SemiColon = after.SemiColon
@@ -108,11 +105,6 @@ ends_itself (node.try_catch body name branch p) = true
 ends_itself (node.switch_statement item arms cases ranges default p) = true
 ends_itself _ = false
 
--- the token of a definition
-abbrev pub keyword_of : (constant : Bool) → Token
-keyword_of true = token.Const
-keyword_of false = token.Let
-
 -- ---- after `export`
 
 abbrev pub sign_defines : Token → Option Bool
@@ -134,30 +126,13 @@ no_variable l = cause.VariableExpected
 -- ---- which tokens are refused
 
 -- where a list of statements may end
-abbrev pub list_ends_at : Lexeme → StatementPlace → Verdict
+abbrev pub list_ends_at : Lexeme → StatementRole → Verdict
 list_ends_at token place.Close = Fine
 list_ends_at token place.Statement = Otherwise
 list_ends_at token place.Nothing = Wrong (missing (codes "}") token)
 
 abbrev pub list_ends : Closing → Lexeme → Verdict
-list_ends closing token = list_ends_at token (statement_place closing token)
-
--- where a statement of a list begins
-abbrev pub begins_at : Lexeme → StatementPlace → Verdict
-begins_at token place.Statement = Fine
-begins_at token place.Close = Otherwise
-begins_at token place.Nothing = Otherwise
-
-abbrev pub statement_begins : Closing → Lexeme → Verdict
-statement_begins closing token = begins_at token (statement_place closing token)
-
--- after a statement that does not end by itself: a `;`
-abbrev pub separated_at : Lexeme → AfterStatement → Verdict
-separated_at token after.Nothing = Wrong (missing (codes ";") token)
-separated_at token _ = Otherwise
-
-abbrev pub semicolon_due : Closing → Lexeme → Verdict
-semicolon_due closing token = separated_at token (token_after_statement closing token)
+list_ends closing token = list_ends_at token (statement_role closing token)
 
 -- after such a statement without a `;`: what closes the list
 abbrev pub last_at : Lexeme → AfterStatement → Verdict
@@ -167,14 +142,6 @@ last_at token after.Nothing = Wrong (missing (codes ";") token)
 
 abbrev pub closed_due : Closing → Lexeme → Verdict
 closed_due closing token = last_at token (token_after_statement closing token)
-
--- an expression begins a statement, and no other form of statement does
-abbrev pub expression_at : StatementStart → Verdict
-expression_at start.Expression = Fine
-expression_at _ = Otherwise
-
-abbrev pub expression_begins : Context → Lexeme → Verdict
-expression_begins context token = expression_at (statement_start context token)
 
 -- after the doc comments of a function, of which the first one is at a position: a further one, or the function
 abbrev pub function_follows : (first : Position) → StatementStart → Verdict
@@ -186,38 +153,10 @@ function_follows first _ = Blames (refusal cause.WrongDocComment first)
 abbrev pub after_comment : Context → (first : Position) → Lexeme → Verdict
 after_comment context first token = function_follows first (statement_start context token)
 
--- after an expression statement: no assignment
-abbrev pub unassigned : Lexeme → Verdict
-unassigned token = if is_assignment token then Otherwise else Fine
-
 -- the name of a definition
 abbrev pub name_due : Lexeme → Verdict
 name_due (Name t) = Otherwise
 name_due token = Wrong (no_variable token)
-
--- after `export`: a definition
-abbrev pub definition_by : Option Bool → Verdict
-definition_by (Some constant) = Fine
-definition_by None = Otherwise
-
-abbrev pub exports_definition : Lexeme → Verdict
-exports_definition token = definition_by (defines token)
-
--- after `export` without a definition: a name
-abbrev pub exported_by : Lexeme → Option Bool → Verdict
-exported_by token (Some constant) = Otherwise
-exported_by token None = name_due token
-
-abbrev pub exported_due : Lexeme → Verdict
-exported_due token = exported_by token (defines token)
-
--- after `for`: a name, or the `(` before two names
-abbrev pub loop_variable_due : Lexeme → Verdict
-loop_variable_due token = if is_due due.LeftParen token then Otherwise else name_due token
-
--- after the name of a definition without a value
-abbrev pub without_value : Lexeme → Verdict
-without_value token = if is_equals token then Otherwise else Fine
 
 -- In a block, `}` closes the list of statements and the end mark is refused; in a script, the end mark closes it. After
 -- a doc comment, the end mark makes that one wrong.

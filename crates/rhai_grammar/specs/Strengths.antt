@@ -1,5 +1,6 @@
 -- What may come after an operand, and how strongly operators bind.
 use Rattle.std.specs.Prelude.{◌≡◌, ℕ, Bool, true, false, ◌&&◌, Option, Some, None, nat_lt, not, if◌then◌else◌, refl}
+use Rattle.std.specs.Prelude.{◌||◌, ◌==◌}
 use Rattle.rhai_lower.specs.Texts.{Text}
 use Rattle.rhai_lower.specs.Names.{is_identifier}
 use Rattle.rhai_lower.specs.Tokens.{strength_of, binds_right}
@@ -71,6 +72,10 @@ left_of op inner =
 abbrev pub right_of : Follower → Follower → Bool
 right_of op inner =
     if is_right op then not (nat_lt (strength inner) (strength op)) else nat_lt (strength op) (strength inner)
+
+-- an operator of this strength goes on with a run of that one
+abbrev pub continues : (parent strength : ℕ) → (right : Bool) → Bool
+continues parent strength right = nat_lt parent strength || (parent == strength && right)
 
 -- `*` may be on either side of `+`; `+` may be on the left of `+`, and `**` on the right of `**`, but not the other way
 -- round. In a case `|` ends a run.

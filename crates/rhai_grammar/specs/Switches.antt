@@ -12,63 +12,31 @@ use Rattle.rhai_lower.specs.declared.node.RangeCase.{RangeCase}
 use Rattle.rhai_lower.specs.declared.position.Position.{Position}
 use Rattle.rhai_lower.specs.declared.token.Token.{Token}
 use Rattle.rhai_lower.specs.declared.token.Token.TheVariants as token
-use Rattle.rhai_grammar.specs.Beginnings.{missing}
 use Rattle.rhai_grammar.specs.CaseValues.{IntegerRange, example_number, example_range, is_empty_range, range_of}
 use Rattle.rhai_grammar.specs.CaseValues.{is_literal_value, same_value}
 use Rattle.rhai_grammar.specs.Causes as cause
 use Rattle.rhai_grammar.specs.Causes.{Refusal, refusal}
 use Rattle.rhai_grammar.specs.CommaLists.{after_part, not_after}
-use Rattle.rhai_grammar.specs.Constructs.{refused_there}
-use Rattle.rhai_grammar.specs.Demands.{Verdict, Fine, Wrong, Blames, Otherwise}
+use Rattle.rhai_grammar.specs.Demands.{Verdict, Fine, Wrong, Otherwise}
 use Rattle.rhai_grammar.specs.Statements.{ends_itself}
-use Rattle.rhai_grammar.specs.declared.due.DueToken.TheVariants as due
 use Rattle.rhai_grammar.specs.declared.list.AfterPart.{AfterPart}
 use Rattle.rhai_grammar.specs.declared.list.AfterPart.TheVariants as after
 use Rattle.rhai_grammar.specs.declared.list.CommaList.TheVariants as lists
-use Rattle.rhai_grammar.specs.declared.role.ArmPlace.{ArmPlace}
-use Rattle.rhai_grammar.specs.declared.role.ArmPlace.TheVariants as arm
+use Rattle.rhai_grammar.specs.declared.role.ArmRole.{ArmRole}
+use Rattle.rhai_grammar.specs.declared.role.ArmRole.TheVariants as arm
 
 -- ---- where an arm may begin
 
-abbrev pub sign_arm : Token → ArmPlace
+abbrev pub sign_arm : Token → ArmRole
 sign_arm token.Underscore = arm.Default
 sign_arm token.RightBrace = arm.Close
 sign_arm token.EOF = arm.Nothing
 sign_arm _ = arm.Case
 
 -- what a token is there
-abbrev pub arm_place : Lexeme → ArmPlace
-arm_place (Sign t) = sign_arm t
-arm_place _ = arm.Case
-
--- an arm with cases
-abbrev pub arm_begins_at : ArmPlace → Verdict
-arm_begins_at arm.Case = Fine
-arm_begins_at _ = Otherwise
-
-abbrev pub arm_begins : Lexeme → Verdict
-arm_begins token = arm_begins_at (arm_place token)
-
--- the `}` after the arms
-abbrev pub arms_end_at : Lexeme → ArmPlace → Verdict
-arms_end_at token arm.Nothing = Wrong (missing (codes "}") token)
-arms_end_at token _ = Otherwise
-
-abbrev pub arms_end : Lexeme → Verdict
-arms_end token = arms_end_at token (arm_place token)
-
--- The default arm, whose `_` is at a position, is the last one.
-abbrev pub default_ends_at : (default : Position) → Lexeme → ArmPlace → Verdict
-default_ends_at default token arm.Close = Otherwise
-default_ends_at default token arm.Nothing = Wrong (missing (codes "}") token)
-default_ends_at default token _ = Blames (refusal cause.WrongSwitchDefaultCase default)
-
-abbrev pub default_ends : (default : Position) → Lexeme → Verdict
-default_ends default token = default_ends_at default token (arm_place token)
-
--- The default arm has no guard.
-abbrev pub unguarded : Lexeme → Verdict
-unguarded token = refused_there due.If cause.WrongSwitchCaseCondition token
+abbrev pub arm_role : Lexeme → ArmRole
+arm_role (Sign t) = sign_arm t
+arm_role _ = arm.Case
 
 -- ---- the action of an arm
 

@@ -2,7 +2,6 @@
 #![tactic(auto)]
 
 pub mod due;
-pub mod entry_rows;
 pub mod error;
 pub mod filter;
 pub mod key;
@@ -10,7 +9,6 @@ pub mod laws;
 pub mod list;
 mod message;
 pub mod role;
-pub mod tree_laws;
 
 pub use due::DueToken;
 pub use error::{InputError, ParseError, ParseErrorType, ParseResult};
@@ -18,6 +16,6 @@ pub use filter::ExprFilter;
 pub use key::FnKey;
 pub use list::{AfterPart, CommaList};
 pub use role::{
-    AfterStatement, ArmPlace, Beginning, Calling, Closing, Construct, Effect, ItemPlace, Joining,
-    Linking, ListKind, OperandPlace, OperandStart, StatementPlace, StatementStart,
+    AfterStatement, ArmRole, Beginning, Calling, Closing, Construct, Effect, ItemRole, Joining,
+    Linking, ListKind, OperandRole, OperandStart, StatementRole, StatementStart,
 };

@@ -10,7 +10,7 @@ use std::error::Error;
 use std::fmt;
 use std::rc::RcStr;
 
-/// The message of the error, as `Unexpected '~'`. docs/GRAMMAR.md, "Messages", has them all.
+/// The message of the error, as `Unexpected '~'`. `specs/Messages` has them all.
 impl fmt::Display for InputError {
     ghost use Rattle.rhai_grammar.specs.Messages.{input_error_message};
 
@@ -104,7 +104,7 @@ fn reserved_kind(text: &str) -> &'static str
     }
 }
 
-/// The message of the kind, as `Undefined variable: x`. docs/GRAMMAR.md, "Messages", has them all.
+/// The message of the kind, as `Undefined variable: x`. `specs/Messages` has them all.
 impl fmt::Display for ParseErrorType {
     ghost use Rattle.rhai_grammar.specs.Messages.{kind_message};
 

@@ -62,7 +62,7 @@ pub enum Beginning {
 
 /// Where an operand stands.
 #[derive(Clone, Copy, PartialEq, Eq, Debug)]
-pub enum OperandPlace {
+pub enum OperandRole {
     /// Directly after a range operator, where it may be omitted.
     AfterRange,
     /// Directly after `??`, where a jump may stand: `return`, `throw`, `break` or `continue`.
@@ -71,7 +71,7 @@ pub enum OperandPlace {
     Elsewhere,
 }
 
-/// What a token is where an operand is expected, at its place.
+/// What a token is where an operand of some role is expected.
 #[derive(Clone, Copy, PartialEq, Eq, Debug)]
 pub enum OperandStart {
     /// A token after which the operand is omitted; it is not taken.
@@ -108,7 +108,7 @@ pub enum Linking {
 
 /// What a token is where an item of an array, or a parameter of a function, may begin.
 #[derive(Clone, Copy, PartialEq, Eq, Debug)]
-pub enum ItemPlace {
+pub enum ItemRole {
     /// `]`, `)` or `|`, which ends the list.
     End,
     /// The beginning of an item, or a parameter.
@@ -196,7 +196,7 @@ pub enum Closing {
 
 /// What a token is where a statement of a list may begin.
 #[derive(Clone, Copy, PartialEq, Eq, Debug)]
-pub enum StatementPlace {
+pub enum StatementRole {
     /// It begins a statement.
     Statement,
     /// It closes the list.
@@ -218,7 +218,7 @@ pub enum AfterStatement {
 
 /// What a token is where an arm of a `switch` may begin.
 #[derive(Clone, Copy, PartialEq, Eq, Debug)]
-pub enum ArmPlace {
+pub enum ArmRole {
     /// It begins a case.
     Case,
     /// `_`, which begins the default arm.

@@ -32,8 +32,8 @@ left_after (Ends end) text = Ends end
 left_after (Then a b s t) text = if text then t else s
 
 -- the token that the next request gives
-abbrev pub asked : Stream → Token × Position
-asked s = given s.requests s.in_text
+abbrev pub next_item : Stream → Token × Position
+next_item s = given s.requests s.in_text
 
 -- the stream after the next token was taken
 abbrev pub later : Stream → Stream
@@ -69,8 +69,8 @@ example_stream = stream_of (record { code = (Plus, place 1 1); text = (Plus, pla
 abbrev example_two : Stream
 example_two = at_rest (Then (Plus, place 1 1) (Minus, place 1 1) (Ends (place 1 2)) example_stream.requests)
 
-example : (asked example_stream ≡ (Plus, place 1 1)) × (asked (later example_stream) ≡ (EOF, place 1 2))
-    × (asked (later (later example_stream)) ≡ (EOF, place 1 2))
-    × (asked (later example_two) ≡ (EOF, place 1 2))
-    × (asked (later (in_text_next example_two)) ≡ (Plus, place 1 1))
+example : (next_item example_stream ≡ (Plus, place 1 1)) × (next_item (later example_stream) ≡ (EOF, place 1 2))
+    × (next_item (later (later example_stream)) ≡ (EOF, place 1 2))
+    × (next_item (later example_two) ≡ (EOF, place 1 2))
+    × (next_item (later (in_text_next example_two)) ≡ (Plus, place 1 1))
 example = (refl, refl, refl, refl, refl)

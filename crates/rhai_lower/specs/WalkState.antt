@@ -5,8 +5,8 @@ use Rattle.std.specs.List.{flat_map}
 use Rattle.std.specs.declared.alloc.AllocError.{AllocError}
 use Rattle.rhai_lower.specs.View.{arm_views, block_view, case_views, function_view, property_views, statement_view}
 use Rattle.rhai_lower.specs.View.{statement_views, view, views}
-use Rattle.rhai_lower.specs.Walks.{Left, Visit, Visited, all_left, arms_walk, block, case, cases_walk, deeper, function}
-use Rattle.rhai_lower.specs.Walks.{functions_walk, inside, node, nodes_walk, range, ranges_walk, statement}
+use Rattle.rhai_lower.specs.Walks.{Left, Visit, Visited, all_left, arms_walk, block, case, cases_walk, declared, deeper}
+use Rattle.rhai_lower.specs.Walks.{function, functions_walk, inside, node, nodes_walk, range, ranges_walk, statement}
 use Rattle.rhai_lower.specs.Walks.{statements_walk, values_walk, walk_of}
 use Rattle.rhai_lower.specs.declared.ast.AST.{AST}
 use Rattle.rhai_lower.specs.declared.ast.BinaryExpr.{out-BinaryExpr}
@@ -23,6 +23,7 @@ use Rattle.rhai_lower.specs.declared.walk.Walk.{Walk}
 -- what a node of the code represents
 abbrev pub visited : Node → Visited
 visited (given.Expr x) = node (view x.now)
+visited (given.Declared x) = declared (view x.now)
 visited (given.Stmt f) = statement (statement_view f.now)
 visited (given.Block b) = block (block_view b.now)
 visited (given.Case c) = case (view (out-SwitchCase c.now).value) (out-SwitchCase c.now).indices.items
@@ -57,8 +58,11 @@ part_walk d (part.If f) =
     ++ walk_of d (block (block_view (out-FlowControl f.now).branch)))
 part_walk d (part.Try f) =
     walk_of d (block (block_view (out-FlowControl f.now).body))
-    ++ (walk_of d (node (view (out-FlowControl f.now).expr))
+    ++ (walk_of d (declared (view (out-FlowControl f.now).expr))
     ++ walk_of d (block (block_view (out-FlowControl f.now).branch)))
+part_walk d (part.Catch f) =
+    walk_of d (declared (view (out-FlowControl f.now).expr))
+    ++ walk_of d (block (block_view (out-FlowControl f.now).branch))
 part_walk d (part.Exprs x xs) = walk_of d (node (view x.now)) ++ nodes_walk d (views xs.now)
 part_walk d (part.Values p ps) = walk_of d (node (view p.now.1)) ++ values_walk d (property_views ps.now)
 part_walk d (part.Stmts f fs) =

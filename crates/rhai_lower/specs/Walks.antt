@@ -16,8 +16,10 @@ use Rattle.rhai_lower.specs.declared.node.RangeCase.{RangeCase}
 use Rattle.rhai_lower.specs.declared.position.Position.{Position}
 
 -- What a walk gives: an expression, a statement, a block of a construct, a case or a range of a `switch`, a function.
+-- The variable that a `catch` declares is a kind of its own, since no other variable is declared by an expression.
 pub data Visited : Type 0 where
   node : Node → Visited
+  declared : Node → Visited
   statement : Statement → Visited
   block : Block → Visited
   case : (value : Node) → (arms : List ℕ) → Visited
@@ -84,9 +86,7 @@ unfoldable mutual
   inside_statement d (expression x) = (d, node x) ∷ inside_node (deeper d) x
   inside_statement d (block_statement b) = inside_block d b
   inside_statement d (try_catch b x c at) =
-      ((d, block b) ∷ inside_block (deeper d) b)
-      ++ (((d, node x) ∷ inside_node (deeper d) x)
-      ++ ((d, block c) ∷ inside_block (deeper d) c))
+      ((d, block b) ∷ inside_block (deeper d) b) ++ ((d, declared x) ∷ (d, block c) ∷ inside_block (deeper d) c)
   inside_statement d (break_loop value breaks at) = optional_walk d value
   inside_statement d (return_statement value throws at) = optional_walk d value
   inside_statement d (import_statement x name at) = (d, node x) ∷ inside_node (deeper d) x
@@ -128,6 +128,7 @@ unfoldable mutual
 -- what stands inside whatever is given, at this depth
 abbrev pub inside : ℕ → Visited → List Visit
 inside d (node x) = inside_node d x
+inside d (declared x) = []
 inside d (statement f) = inside_statement d f
 inside d (block b) = inside_block d b
 inside d (case x arms) = (d, node x) ∷ inside_node (deeper d) x

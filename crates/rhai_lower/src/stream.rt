@@ -5,7 +5,7 @@ ghost use Rattle.std.specs.Prelude.{length};
 ghost use Rattle.std.specs.Prelude.{All, IsTrue, IsNone, IsOk, IfOk, IfErr, Some, ◌↔◌};
 ghost use Rattle.std.specs.Borrow.{sem, follows_so};
 ghost use mathlib.Core.Option.{none};
-ghost use Rattle.rhai_lower.specs.Streams.{Stream, asked, later, peeking, stream_of, in_text_next};
+ghost use Rattle.rhai_lower.specs.Streams.{Stream, next_item, later, peeking, stream_of, in_text_next};
 ghost use Rattle.rhai_lower.specs.Entries.{ask_of, head_asks, head_text, head_peeked, may_be_delivered};
 ghost use Rattle.rhai_lower.specs.Entries.{first_undeliverable};
 
@@ -225,7 +225,7 @@ impl TokenStream {
     /// The next token with its position, without taking it. Does not allocate.
     #[inline(always)]
     pub fn peek(&mut self) -> &(Token, Position)
-        ensures value { result.now ≡ asked self.old }
+        ensures value { result.now ≡ next_item self.old }
         ensures* after { sem 𝓛 (follows_so the_row the_row self.entry.ghost_name none (λ _ _. ⊤) (λ v. v
             ≡ peeking self.old)) }
     {
@@ -235,7 +235,7 @@ impl TokenStream {
 
     /// Takes the next token with its position. The request after it is in code mode. Does not allocate.
     pub fn next(&mut self) -> (Token, Position)
-        ensures value { result ≡ asked self.old }
+        ensures value { result ≡ next_item self.old }
         ensures after { self.new ≡ later self.old }
     {
         self.ask();

@@ -30,7 +30,7 @@ pub enum LexError {
     OutOfMemory,
 }
 
-/// The message of the error, as `Unexpected '~'`. docs/GRAMMAR.md, "Messages", has them all.
+/// The message of the error, as `Unexpected '~'`. `specs/Messages` has them all.
 impl fmt::Display for LexError {
     ghost use Rattle.std.specs.Prelude.{Some};
     ghost use Rattle.rhai_lower.specs.Lexemes.{fault};

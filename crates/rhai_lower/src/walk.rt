@@ -22,6 +22,8 @@ use std::rc::Rc;
 #[derive(Clone, Copy)]
 pub enum Node<'a> {
     Expr(&'a Expr),
+    /// The variable that a `catch` declares, or unit if it declares none. It has no parts.
+    Declared(&'a Expr),
     /// A statement. The parts of a block that is a statement are its statements.
     Stmt(&'a Stmt),
     /// A block that is a part of something else than a block: of a construct, of an expression, of a function.
@@ -43,6 +45,8 @@ enum Part<'a> {
     Blocks(&'a StmtBlock, &'a StmtBlock),
     If(&'a FlowControl),
     Try(&'a FlowControl),
+    // The variable and the block of a `catch`.
+    Catch(&'a FlowControl),
     // The first of a list, and the others.
     Exprs(&'a Expr, &'a [Expr]),
     // The values of properties.
@@ -188,10 +192,10 @@ impl<'a> Part<'a> {
     {
         match node {
             Node::Expr(expr) => Part::of_expr(expr),
+            Node::Declared(_) | Node::Range(_) => None,
             Node::Stmt(statement) => Part::of_stmt(statement),
             Node::Block(block) => Part::stmts(&block.statements),
             Node::Case(case) => Some(Part::One(Node::Expr(&case.value))),
-            Node::Range(_) => None,
             Node::Function(function) => Some(Part::One(Node::Block(&function.body))),
         }
     }
@@ -212,9 +216,10 @@ impl<'a> Part<'a> {
                 Node::Expr(&control.expr),
                 Some(Part::Blocks(&control.body, &control.branch)),
             ),
-            Part::Try(control) => (
-                Node::Block(&control.body),
-                Some(Part::Guarded(&control.expr, &control.branch)),
+            Part::Try(control) => (Node::Block(&control.body), Some(Part::Catch(control))),
+            Part::Catch(control) => (
+                Node::Declared(&control.expr),
+                Some(Part::One(Node::Block(&control.branch))),
             ),
             Part::Exprs(first, others) => (Node::Expr(first), Part::exprs(others)),
             Part::Values(first, others) => (Node::Expr(&first.1), Part::values(others)),

@@ -1,5 +1,5 @@
 -- What holds of `or`.
-use Rattle.std.proofs.Common.{◌≡◌, ◌∙◌, Bool, true, false, ◌||◌, refl, sym, ap}
+use Rattle.std.proofs.Common.{◌≡◌, Bool, true, false, ◌||◌, refl, sym}
 
 pub or-assoc : (a b c : Bool) → ((a || b) || c) ≡ (a || (b || c))
 or-assoc true b c = refl
@@ -17,6 +17,3 @@ or-comm false b = sym (or-false b)
 pub absorbed : (a b : Bool) → (a || b) ≡ ((a || b) || a)
 absorbed true b = refl
 absorbed false b = sym (or-false b)
-
-pub or-swap : (a b c : Bool) → ((a || b) || c) ≡ ((a || c) || b)
-or-swap a b c = or-assoc a b c ∙ ap (λ r. a || r) (or-comm b c) ∙ sym (or-assoc a c b)

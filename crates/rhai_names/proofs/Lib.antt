@@ -1,13 +1,5 @@
 pub mod BoolLemmas
-pub mod MentionLemmas
 pub mod NameLemmas
-pub mod OperandSteps
-pub mod Readings
+pub mod NotedLemmas
 pub mod ScriptLemmas
 pub mod SetLemmas
-pub mod SwitchSteps
-pub mod TreeSteps
-pub mod UseLemmas
-pub mod WalkLemmas
-pub mod WalkLists
-pub mod WalkSteps

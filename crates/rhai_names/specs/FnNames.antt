@@ -11,8 +11,8 @@ use Rattle.std.specs.declared.rc.RcStr.{RcStr}
 use Rattle.rhai_lower.specs.Nodes as node
 use Rattle.rhai_lower.specs.Texts.{Text, same_text}
 use Rattle.rhai_grammar.specs.Imports.{is_among}
-use Rattle.rhai_names.specs.Mentions.{block_mentions, is_called, is_read}
-use Rattle.rhai_names.specs.WrittenFunctions.{WrittenFunction, ended_of, events_of, is_used}
+use Rattle.rhai_productions.specs.Mentions.{block_mentions, is_called, is_read}
+use Rattle.rhai_productions.specs.WrittenFunctions.{WrittenFunction, is_used}
 use Rattle.rhai_names.specs.declared.names.FnNames.{FnNames}
 
 -- the order of texts by their bytes
@@ -53,7 +53,7 @@ IsNamesOf f x = IsNames f (λ name. is_read name (block_mentions f.body)) x
 -- The names of a function as it is written: those of its uses that no live slot has there. The names that a closure
 -- captures are parameters of it.
 abbrev pub IsNamesOfWritten : WrittenFunction → FnNames → Type 0
-IsNamesOfWritten w x = IsNames (ended_of w).function (λ name. is_used name (events_of w)) x
+IsNamesOfWritten w x = IsNames w.ended.function (λ name. is_used name w) x
 
 -- so it is with each of these, in order
 abbrev pub AreNamesOf : List node.Function → List FnNames → Type 0

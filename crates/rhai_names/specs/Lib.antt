@@ -1,6 +1,3 @@
-pub mod Mentions
-pub mod WrittenFunctions
 pub mod FnNames
-pub mod Laws
 pub mod Scripts
-pub mod Walks
+pub mod Noted

@@ -2,7 +2,6 @@
 //! its contracts alone, as an evaluator or a linter would.
 #![tactic(auto)]
 
-pub mod laws;
 pub mod names;
+mod noted;
 pub mod script;
-mod walk;

@@ -5,9 +5,9 @@ ghost use Rattle.std.specs.BTreeSet.{IsOrdered};
 ghost use Rattle.std.specs.Rc.{rc_str_bytes};
 ghost use Rattle.rhai_lower.specs.View.{function_view};
 ghost use Rattle.rhai_names.specs.FnNames.{AreNamesOf, IsNamesOf};
-ghost use Rattle.rhai_names.specs.Walks.{IsWithout};
+ghost use Rattle.rhai_names.specs.Noted.{IsWithout};
 
-use crate::walk::Walk;
+use crate::noted::Noted;
 use rhai_lower::ScriptFuncDef;
 use std::alloc::{AllocError, Global};
 use std::collections::BTreeSet;
@@ -65,9 +65,9 @@ fn in_order<K: Ord + Drop>(alloc: Global, set: BTreeSet<K>) -> Result<Vec<K>, Al
 fn names_of_function(alloc: Global, function: &ScriptFuncDef) -> Result<FnNames, AllocError>
     ensures { IfOk result (IsNamesOf (function_view function.now)) }
 {
-    let mut walk = Walk::of_block(alloc, &function.body)?;
-    remove_params(&mut walk.read, &function.params);
-    let Walk { read, called, .. } = walk;
+    let mut noted = Noted::of_block(alloc, &function.body)?;
+    remove_params(&mut noted.read, &function.params);
+    let Noted { read, called } = noted;
     Ok(FnNames {
         this_type: cloned_type(&function.this_type)?,
         name: function.name.clone()?,

@@ -7,7 +7,7 @@ use Rattle.rhai_lower.specs.declared.position.Position.{Position}
 use Rattle.rhai_grammar.specs.Causes as cause
 use Rattle.rhai_grammar.specs.Causes.{refusal}
 use Rattle.rhai_grammar.specs.Closures.{in_closure}
-use Rattle.rhai_grammar.specs.Contexts.{Context, Known, Live, has_room, level_up}
+use Rattle.rhai_grammar.specs.Contexts.{Context, Known, Live, may_raise, level_up}
 use Rattle.rhai_grammar.specs.Cursors.{left}
 use Rattle.rhai_grammar.specs.Functions.{duplicate_of, is_new, may_begin, parameters_live}
 use Rattle.rhai_grammar.specs.Libraries.{Ended}
@@ -76,7 +76,7 @@ begun_runs c w at by s fits =
 pub record Begun (c : Context) (w : Live) (at : Position) (by : Bars) (d : Context) (l : Live) (names : List Text) (s t : Progress) : Type 0 where
   pub fits : may_begin c s.library ≡ true
   pub parameters : closure_parameters by s ≡ Done names t
-  pub room : has_room (in_closure c w) ≡ true
+  pub room : may_raise (in_closure c w) ≡ true
   pub context : d ≡ level_up (in_closure c w)
   pub live : l ≡ parameters_live names
   pub shorter : left t.cursor.tokens ≤ left s.cursor.tokens
@@ -110,7 +110,7 @@ parameters_fail c w at by s fits e t fails =
 
 -- there is no level for the body
 pub raise_fails : (c : Context) (w : Live) (at : Position) (by : Bars) (names : List Text) (s t : Progress)
-    → may_begin c s.library ≡ true → closure_parameters by s ≡ Done names t → has_room (in_closure c w) ≡ false
+    → may_begin c s.library ≡ true → closure_parameters by s ≡ Done names t → may_raise (in_closure c w) ≡ false
     → result_of (Closure c w at by) s ≡ R.Refused (refusal cause.ExprTooDeep at) t
 raise_fails c w at by names s t fits parameters room =
     let call = guarded (Closure c w at by) s in

@@ -12,10 +12,11 @@ use Rattle.rhai_grammar.specs.Cursors.{left}
 use Rattle.rhai_grammar.specs.Delivered.{is_memory}
 use Rattle.rhai_grammar.specs.Statements.{is_comment, statement_start}
 use Rattle.rhai_grammar.specs.declared.role.StatementStart.TheVariants as start
+use Rattle.rhai_grammar.specs.Comments.{comment_of as comment_at}
 use Rattle.rhai_reading.specs.Reading as reading
 use Rattle.rhai_reading.specs.Reading.{Call, Comments, Fail, FunctionStatement, Goal, Peek, Ret, Statement, Take, comments_at, documented, documented_at, fn_on, statement_at}
 use Rattle.rhai_reading.specs.Running as R
-use Rattle.rhai_reading.specs.Running.{Done, Progress, and_then, asked, exec, guarded, looking, nested, result_of, taking}
+use Rattle.rhai_reading.specs.Running.{Done, Progress, and_then, next_item, exec, guarded, after_peek, nested, result_of, after_take}
 use Rattle.rhai_reading.proofs.Steps.{and_then_done, guarded_is, nested_is, step_comments, step_statement}
 use Rattle.rhai_base.specs.Comments.{comment_of, comments_of}
 
@@ -24,83 +25,83 @@ pub comments_push : (cs : List (RcStr Global × Position)) (c : RcStr Global × 
 comments_push cs c = map_push comment_of cs c
 
 -- one more is taken
-pub comment_taken : (before : List Comment) (s t : Progress) (x : Comment) → is_memory (asked s).lexeme ≡ false
-    → is_comment (asked s).lexeme ≡ true → x ≡ reading.comment_of (asked s).lexeme (asked s).at → t ≡ taking s
+pub comment_taken : (before : List Comment) (s t : Progress) (x : Comment) → is_memory (next_item s).lexeme ≡ false
+    → is_comment (next_item s).lexeme ≡ true → x ≡ comment_at (next_item s).lexeme (next_item s).at → t ≡ after_take s
     → left t.cursor.tokens + 1 ≤ left s.cursor.tokens → result_of (Comments before) s ≡ result_of (Comments (before ++ x ∷ [])) t
 comment_taken before s t x readable comment same took short =
     let call = guarded (Comments before) s in
-    let l = (asked s).lexeme in
-    let p = (asked s).at in
+    let l = (next_item s).lexeme in
+    let p = (next_item s).at in
     step_comments before s
-    ∙ ap (λ m. if m then R.Refused out_of_memory (looking s) else exec call (comments_at before l p) (looking s)) readable
-    ∙ ap (λ b. exec call (if b then Take (Call (Comments (before ++ reading.comment_of l p ∷ [])) Ret) else Ret before) (looking s)) comment
-    ∙ ap (λ m. if m then R.Refused out_of_memory (looking s) else exec call (Call (Comments (before ++ reading.comment_of l p ∷ [])) Ret) (taking s)) readable
-    ∙ ap (λ (y : Comment). exec call (Call (Comments (before ++ y ∷ [])) Ret) (taking s)) (sym same)
+    ∙ ap (λ m. if m then R.Refused out_of_memory (after_peek s) else exec call (comments_at before l p) (after_peek s)) readable
+    ∙ ap (λ b. exec call (if b then Take (Call (Comments (before ++ comment_at l p ∷ [])) Ret) else Ret before) (after_peek s)) comment
+    ∙ ap (λ m. if m then R.Refused out_of_memory (after_peek s) else exec call (Call (Comments (before ++ comment_at l p ∷ [])) Ret) (after_take s)) readable
+    ∙ ap (λ (y : Comment). exec call (Call (Comments (before ++ y ∷ [])) Ret) (after_take s)) (sym same)
     ∙ ap (λ (u : Progress). exec call (Call (Comments (before ++ x ∷ [])) Ret) u) (sym took)
     ∙ and_then_done (call (Comments (before ++ x ∷ [])) t)
     ∙ guarded_is (Comments before) s (Comments (before ++ x ∷ [])) t (omega (arith, short))
 
 -- a function whose `fn` is taken
-pub plain_read : (h : Goal) (s : Progress) (c : Context) (w : Live) (cs : List Comment) (at : Position) (old taken : Progress) → is_memory (asked old).lexeme ≡ false
-    → taken ≡ taking old → left taken.cursor.tokens + 1 ≤ left old.cursor.tokens → left old.cursor.tokens ≤ left s.cursor.tokens
+pub plain_read : (h : Goal) (s : Progress) (c : Context) (w : Live) (cs : List Comment) (at : Position) (old taken : Progress) → is_memory (next_item old).lexeme ≡ false
+    → taken ≡ after_take old → left taken.cursor.tokens + 1 ≤ left old.cursor.tokens → left old.cursor.tokens ≤ left s.cursor.tokens
     → exec (guarded h s) (fn_on c w cs at) old ≡ nested (result_of (FunctionStatement c w cs at at false)) taken
 plain_read h s c w cs at old taken readable took short within =
     let call = guarded h s in
     let inside = FunctionStatement c w cs at at false in
-    ap (λ m. if m then R.Refused out_of_memory (looking old) else exec call (Call inside Ret) (taking old)) readable
+    ap (λ m. if m then R.Refused out_of_memory (after_peek old) else exec call (Call inside Ret) (after_take old)) readable
     ∙ ap (λ (u : Progress). exec call (Call inside Ret) u) (sym took)
     ∙ and_then_done (nested (call inside) taken)
     ∙ nested_is h s inside taken (omega (arith, short, within))
 
 -- a statement that begins with `fn`
-pub function_starts : (c d : Context) (w : Live) (here : Position) (s looked : Progress) → is_memory (asked s).lexeme ≡ false
-    → statement_start c (asked s).lexeme ≡ start.Function → c ≡ d → (asked s).at ≡ here → looked ≡ looking s
+pub function_starts : (c d : Context) (w : Live) (here : Position) (s looked : Progress) → is_memory (next_item s).lexeme ≡ false
+    → statement_start c (next_item s).lexeme ≡ start.Function → c ≡ d → (next_item s).at ≡ here → looked ≡ after_peek s
     → result_of (Statement c w) s ≡ exec (guarded (Statement c w) s) (fn_on d w [] here) looked
 function_starts c d w here s looked readable begins context stands look =
     let call = guarded (Statement c w) s in
-    let l = (asked s).lexeme in
-    let p = (asked s).at in
+    let l = (next_item s).lexeme in
+    let p = (next_item s).at in
     step_statement c w s
-    ∙ ap (λ m. if m then R.Refused out_of_memory (looking s) else exec call (statement_at c w p (statement_start c l)) (looking s)) readable
-    ∙ ap (λ k. exec call (statement_at c w p k) (looking s)) begins
-    ∙ ap (λ (e : Context). exec call (fn_on e w [] p) (looking s)) context
-    ∙ ap (λ (q : Position). exec call (fn_on d w [] q) (looking s)) stands
+    ∙ ap (λ m. if m then R.Refused out_of_memory (after_peek s) else exec call (statement_at c w p (statement_start c l)) (after_peek s)) readable
+    ∙ ap (λ k. exec call (statement_at c w p k) (after_peek s)) begins
+    ∙ ap (λ (e : Context). exec call (fn_on e w [] p) (after_peek s)) context
+    ∙ ap (λ (q : Position). exec call (fn_on d w [] q) (after_peek s)) stands
     ∙ ap (λ (u : Progress). exec call (fn_on d w [] here) u) (sym look)
 
 -- Doc comments are taken where a statement begins, of which the first one is x, and a token is next that is seen.
 pub record Documented (c : Context) (x : Comment) (cs : List Comment) (s old taken read : Progress) : Type 0 where
-  pub readable : is_memory (asked old).lexeme ≡ false
-  pub comment : x ≡ reading.comment_of (asked old).lexeme (asked old).at
-  pub took : taken ≡ taking old
+  pub readable : is_memory (next_item old).lexeme ≡ false
+  pub comment : x ≡ comment_at (next_item old).lexeme (next_item old).at
+  pub took : taken ≡ after_take old
   pub short : left taken.cursor.tokens + 1 ≤ left old.cursor.tokens
   pub within : left old.cursor.tokens ≤ left s.cursor.tokens
   pub global : is_global c ≡ true
   pub further : result_of (Comments (x ∷ [])) taken ≡ Done cs read
-  pub readable_on : is_memory (asked read).lexeme ≡ false
+  pub readable_on : is_memory (next_item read).lexeme ≡ false
 
 pub comments_read : (h : Goal) (c : Context) (w : Live) (at : Position) (x : Comment) (cs : List Comment) (s old taken read : Progress) → Documented c x cs s old taken read
     → exec (guarded h s) (statement_at c w at start.Comment) old
-    ≡ exec (guarded h s) (documented_at c w x.at cs (asked read).at (statement_start c (asked read).lexeme)) (looking read)
+    ≡ exec (guarded h s) (documented_at c w x.at cs (next_item read).at (statement_start c (next_item read).lexeme)) (after_peek read)
 comments_read h c w at x cs s old taken read d =
     let call = guarded h s in
-    let y = reading.comment_of (asked old).lexeme (asked old).at in
-    ap (λ m. if m then R.Refused out_of_memory (looking old) else exec call (Take (documented c w y)) (looking old)) d.readable
-    ∙ ap (λ m. if m then R.Refused out_of_memory (looking old) else exec call (documented c w y) (taking old)) d.readable
-    ∙ ap (λ (z : Comment). exec call (documented c w z) (taking old)) (sym d.comment)
+    let y = comment_at (next_item old).lexeme (next_item old).at in
+    ap (λ m. if m then R.Refused out_of_memory (after_peek old) else exec call (Take (documented c w y)) (after_peek old)) d.readable
+    ∙ ap (λ m. if m then R.Refused out_of_memory (after_peek old) else exec call (documented c w y) (after_take old)) d.readable
+    ∙ ap (λ (z : Comment). exec call (documented c w z) (after_take old)) (sym d.comment)
     ∙ ap (λ (u : Progress). exec call (documented c w x) u) (sym d.took)
     ∙ ap (λ b. exec call (if b then Call (Comments (x ∷ [])) (λ comments. Peek (λ l p. documented_at c w x.at comments p (statement_start c l))) else Fail (refusal cause.WrongDocComment x.at)) taken) d.global
     ∙ ap (λ o. and_then o (λ comments t. exec call (Peek (λ l p. documented_at c w x.at comments p (statement_start c l))) t))
     (guarded_is h s (Comments (x ∷ [])) taken (omega (arith, d.short, d.within)) ∙ d.further)
-    ∙ ap (λ m. if m then R.Refused out_of_memory (looking read) else exec call (documented_at c w x.at cs (asked read).at (statement_start c (asked read).lexeme)) (looking read)) d.readable_on
+    ∙ ap (λ m. if m then R.Refused out_of_memory (after_peek read) else exec call (documented_at c w x.at cs (next_item read).at (statement_start c (next_item read).lexeme)) (after_peek read)) d.readable_on
 
 -- a function follows
 pub function_follows : (h : Goal) (c e : Context) (w : Live) (at here : Position) (x : Comment) (cs : List Comment) (s old taken read looked : Progress) → Documented c x cs s old taken read
-    → statement_start c (asked read).lexeme ≡ start.Function → c ≡ e → (asked read).at ≡ here → looked ≡ looking read
+    → statement_start c (next_item read).lexeme ≡ start.Function → c ≡ e → (next_item read).at ≡ here → looked ≡ after_peek read
     → exec (guarded h s) (statement_at c w at start.Comment) old ≡ exec (guarded h s) (fn_on e w cs here) looked
 function_follows h c e w at here x cs s old taken read looked d begins context stands look =
     let call = guarded h s in
     comments_read h c w at x cs s old taken read d
-    ∙ ap (λ k. exec call (documented_at c w x.at cs (asked read).at k) (looking read)) begins
-    ∙ ap (λ (f : Context). exec call (fn_on f w cs (asked read).at) (looking read)) context
-    ∙ ap (λ (q : Position). exec call (fn_on e w cs q) (looking read)) stands
+    ∙ ap (λ k. exec call (documented_at c w x.at cs (next_item read).at k) (after_peek read)) begins
+    ∙ ap (λ (f : Context). exec call (fn_on f w cs (next_item read).at) (after_peek read)) context
+    ∙ ap (λ (q : Position). exec call (fn_on e w cs q) (after_peek read)) stands
     ∙ ap (λ (u : Progress). exec call (fn_on e w cs here) u) (sym look)

@@ -3,7 +3,7 @@
 use Rattle.rhai_lower.proofs.Views.{view_unit, views_push}
 use Rattle.rhai_reading.proofs.Steps.{nested_so, step_action, step_arm, step_arms, step_braced, step_branch, step_case, step_case_guard, step_cases, step_conditional, step_construct, step_default_arm, step_guard, step_iterated}
 use Rattle.rhai_parser.proofs.Readers.{readers}
-use Rattle.rhai_parser.proofs.Rooms.{no_function}
+use Rattle.rhai_parser.proofs.Heights.{no_function}
 
 pub ruleset parse_construct = (readers, nested_so, step_construct)
 

@@ -1,4 +1,5 @@
--- The contexts of the worked rows are those of the entry points. A new engine's entries make them of a fresh state.
+-- The contexts of the worked rows are those of the entry points. A new engine's entry points make them of a fresh
+-- state.
 use Rattle.std.proofs.Common.{◌≡◌, ◌∙◌, ℕ, List, [], ap}
 use Rattle.std.specs.Prelude.{map}
 use Rattle.std.specs.Rc.{rc_str_bytes}

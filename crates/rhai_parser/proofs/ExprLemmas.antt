@@ -12,7 +12,7 @@ use Rattle.rhai_grammar.specs.declared.filter.ExprFilter.{ExprFilter}
 use Rattle.rhai_grammar.specs.Settings.{Settings}
 use Rattle.rhai_reading.specs.Reading.{Called, Ret, next_operator_at, NextOperator}
 use Rattle.rhai_reading.specs.Running as R
-use Rattle.rhai_reading.specs.Running.{Gives, Progress, asked, exec, guarded, looking, nested, result_of}
+use Rattle.rhai_reading.specs.Running.{Gives, Progress, next_item, exec, guarded, after_peek, nested, result_of}
 use Rattle.rhai_reading.proofs.Steps.{step_next_operator}
 use Rattle.rhai_base.specs.Operators.{operator_found}
 use Rattle.rhai_parser.specs.NextOperators.{operator_pair}
@@ -31,28 +31,28 @@ found_given at None = refl
 found_given at (Some o) = refl
 
 -- the operator that the code finds
-next_done : (f : ExprFilter) (s t : Progress) (o : Option Operator) → is_memory (asked s).lexeme ≡ false → follower_of f (asked s).lexeme ≡ operator_found o → t ≡ looking s → result_of (NextOperator f) s ≡ R.Done (option_map operator_pair o) t
+next_done : (f : ExprFilter) (s t : Progress) (o : Option Operator) → is_memory (next_item s).lexeme ≡ false → follower_of f (next_item s).lexeme ≡ operator_found o → t ≡ after_peek s → result_of (NextOperator f) s ≡ R.Done (option_map operator_pair o) t
 next_done f s t o readable is look =
     let call = guarded (NextOperator f) s in
-    let at = (asked s).at in
+    let at = (next_item s).at in
     step_next_operator f s
-    ∙ ap (λ m. if m then R.Refused out_of_memory (looking s) else exec call (next_operator_at at (follower_of f (asked s).lexeme)) (looking s)) readable
-    ∙ ap (λ b. exec call (next_operator_at at b) (looking s)) is
-    ∙ ap (λ p. exec call p (looking s)) (found_given at o)
+    ∙ ap (λ m. if m then R.Refused out_of_memory (after_peek s) else exec call (next_operator_at at (follower_of f (next_item s).lexeme)) (after_peek s)) readable
+    ∙ ap (λ b. exec call (next_operator_at at b) (after_peek s)) is
+    ∙ ap (λ p. exec call p (after_peek s)) (found_given at o)
     ∙ ap (R.Done (option_map operator_pair o)) (sym look)
 
 -- what the code answers where it looks for an operator, as the reading program gives it
-pub next_given : (f : ExprFilter) (s t : Progress) (r : Result (Option Operator) ParseError) → IfOk r (λ o. follower_of f (asked s).lexeme ≡ operator_found o) → IfErr r (λ e. is_for_memory e ≡ false → (follower_of f (asked s).lexeme ≡ Unknown (text_of (asked s).lexeme)) × (is_memory (asked s).lexeme ≡ false) × (refusal_of e ≡ refusal (UnknownOperator (text_of (asked s).lexeme)) (asked s).at)) → IfErr r MemoryIsNowhere → t ≡ looking s → OnOk r (is_memory (asked s).lexeme ≡ false) → Gives (option_map operator_pair) (result_of (NextOperator f) s) r t
+pub next_given : (f : ExprFilter) (s t : Progress) (r : Result (Option Operator) ParseError) → IfOk r (λ o. follower_of f (next_item s).lexeme ≡ operator_found o) → IfErr r (λ e. is_for_memory e ≡ false → (follower_of f (next_item s).lexeme ≡ Unknown (text_of (next_item s).lexeme)) × (is_memory (next_item s).lexeme ≡ false) × (refusal_of e ≡ refusal (UnknownOperator (text_of (next_item s).lexeme)) (next_item s).at)) → IfErr r MemoryIsNowhere → t ≡ after_peek s → OnOk r (is_memory (next_item s).lexeme ≡ false) → Gives (option_map operator_pair) (result_of (NextOperator f) s) r t
 next_given f s t (Ok o) found refused nowhere look readable = next_done f s t o readable found look
 next_given f s t (Err e) found refused nowhere look readable = (
   λ told. (
       let call = guarded (NextOperator f) s in
-      let at = (asked s).at in
+      let at = (next_item s).at in
       let h = refused told in
       step_next_operator f s
-      ∙ ap (λ m. if m then R.Refused out_of_memory (looking s) else exec call (next_operator_at at (follower_of f (asked s).lexeme)) (looking s)) h.1
-      ∙ ap (λ b. exec call (next_operator_at at b) (looking s)) h.0
-      ∙ ap (λ d. R.Refused d (looking s)) (sym h.2)
+      ∙ ap (λ m. if m then R.Refused out_of_memory (after_peek s) else exec call (next_operator_at at (follower_of f (next_item s).lexeme)) (after_peek s)) h.1
+      ∙ ap (λ b. exec call (next_operator_at at b) (after_peek s)) h.0
+      ∙ ap (λ d. R.Refused d (after_peek s)) (sym h.2)
       ∙ ap (R.Refused (refusal_of e)) (sym look)),
   nowhere,
 )

@@ -6,7 +6,7 @@ use Rattle.rhai_reading.proofs.Steps.{nested_so, step_arguments, step_binary_op,
 use Rattle.rhai_trees.proofs.ChainLemmas.{indexed_after, links_push}
 use Rattle.rhai_trees.proofs.LinkedLemmas.{block_is_value, call_value, method_value, property_value, unit_value, variable_value}
 use Rattle.rhai_parser.proofs.Readers.{calls_of_readers, readers}
-use Rattle.rhai_parser.proofs.Rooms.{no_function}
+use Rattle.rhai_parser.proofs.Heights.{no_function}
 
 pub ruleset paths = (calls_of_readers, step_path)
 

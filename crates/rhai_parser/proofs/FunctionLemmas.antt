@@ -7,7 +7,7 @@ use Rattle.rhai_grammar.specs.Beginnings.{calling, is_list}
 use Rattle.rhai_grammar.specs.Causes as cause
 use Rattle.rhai_grammar.specs.Causes.{Refusal, out_of_memory, refusal}
 use Rattle.rhai_grammar.specs.Comments.{Comment}
-use Rattle.rhai_grammar.specs.Contexts.{Context, Known, Live, has_room, is_global, level_up}
+use Rattle.rhai_grammar.specs.Contexts.{Context, Known, Live, may_raise, is_global, level_up}
 use Rattle.rhai_grammar.specs.Cursors as cursors
 use Rattle.rhai_grammar.specs.Cursors.{Cursor}
 use Rattle.rhai_grammar.specs.Delivered.{is_memory}
@@ -23,7 +23,7 @@ use Rattle.rhai_grammar.specs.declared.role.Calling.TheVariants as calls_by
 use Rattle.rhai_reading.specs.Reading.{Call, Fail, Function, FunctionStatement, Know, ParameterList, function_end, function_on}
 use Rattle.rhai_reading.specs.Reading.{parameters_at, raised}
 use Rattle.rhai_reading.specs.Running as R
-use Rattle.rhai_reading.specs.Running.{Done, Fails, Gives, Out, Progress, and_then, asked, exec, guarded, looking, nested, result_of}
+use Rattle.rhai_reading.specs.Running.{Done, Fails, Gives, Out, Progress, and_then, next_item, exec, guarded, after_peek, nested, result_of}
 use Rattle.rhai_reading.proofs.Steps.{nested_is, step_function_statement, step_parameter_list}
 use Rattle.rhai_lower.specs.Nodes as node
 use Rattle.rhai_base.specs.Frames.{FrameValue}
@@ -41,17 +41,17 @@ no_list function l at calls_by.Bang none = refl
 no_list function l at calls_by.Nothing none = refl
 
 -- a token that begins no parameters
-pub parameters_refused : (function : Text) (s : Progress) (e : Refusal) (t : Cursor) → is_memory (asked s).lexeme ≡ false
-    → is_list (calling (asked s).lexeme) ≡ false
-    → e ≡ refusal (no_parameters function (asked s).lexeme) (asked s).at → t ≡ cursors.looking s.cursor
+pub parameters_refused : (function : Text) (s : Progress) (e : Refusal) (t : Cursor) → is_memory (next_item s).lexeme ≡ false
+    → is_list (calling (next_item s).lexeme) ≡ false
+    → e ≡ refusal (no_parameters function (next_item s).lexeme) (next_item s).at → t ≡ cursors.after_peek s.cursor
     → result_of (ParameterList function) s ≡ R.Refused e (record s { cursor = t })
 parameters_refused function s e t readable none why left =
     let call = guarded (ParameterList function) s in
-    let l = (asked s).lexeme in
+    let l = (next_item s).lexeme in
     step_parameter_list function s
-    ∙ ap (λ m. if m then R.Refused out_of_memory (looking s) else exec call (parameters_at function l (asked s).at (calling l)) (looking s)) readable
-    ∙ ap (λ p. exec call p (looking s)) (no_list function l (asked s).at (calling l) none)
-    ∙ ap (λ r. R.Refused r (looking s)) (sym why)
+    ∙ ap (λ m. if m then R.Refused out_of_memory (after_peek s) else exec call (parameters_at function l (next_item s).at (calling l)) (after_peek s)) readable
+    ∙ ap (λ p. exec call p (after_peek s)) (no_list function l (next_item s).at (calling l) none)
+    ∙ ap (λ r. R.Refused r (after_peek s)) (sym why)
     ∙ ap (λ (u : Cursor). R.Refused e (record s { cursor = u })) (sym left)
 
 -- ---- a function as a statement
@@ -75,7 +75,7 @@ context_inside engine outer inner here deeper filtered knows begun raised =
 pub record Begun (c : Context) (w : Live) (at : Position) (d : Context) (here : Position) (s : Progress) : Type 0 where
   pub global : is_global c ≡ true
   pub fits : may_begin c s.library ≡ true
-  pub room : has_room (in_function c w) ≡ true
+  pub room : may_raise (in_function c w) ≡ true
   pub context : d ≡ level_up (in_function c w)
   pub stands : here ≡ at
 

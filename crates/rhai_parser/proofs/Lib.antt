@@ -2,7 +2,7 @@ pub mod Bounds
 pub mod Given
 pub mod ParameterLemmas
 pub mod Readers
-pub mod Rooms
+pub mod Heights
 pub mod ExprLemmas
 pub mod LookedLemmas
 pub mod ExprReaders

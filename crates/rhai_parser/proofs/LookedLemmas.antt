@@ -16,7 +16,7 @@ use Rattle.rhai_lower.specs.Nodes.{Node}
 use Rattle.rhai_lower.specs.declared.position.Position.{Position}
 use Rattle.rhai_grammar.specs.declared.filter.ExprFilter.{ExprFilter}
 use Rattle.rhai_reading.specs.Reading.{BinaryOp, Goal, Links, NextOperator, Peek, Postfix, Prog, Ret, Val, binary_at, binary_on, body, links_at, next_operator_at, postfix_at, tested}
-use Rattle.rhai_reading.specs.Running.{Caller, Done, Progress, Refused, Unfinished, and_then, asked, exec, guarded, looking, need, only_less, result_of}
+use Rattle.rhai_reading.specs.Running.{Caller, Done, Progress, Refused, Unfinished, and_then, next_item, exec, guarded, after_peek, need, only_less, result_of}
 use Rattle.rhai_reading.proofs.Steps.{guarded_is, looked, run_step}
 use Rattle.rhai_grammar.specs.Strengths.{follower_of}
 use Rattle.rhai_grammar.specs.declared.error.ParseError.{ParseError}
@@ -25,22 +25,22 @@ use Rattle.rhai_base.specs.declared.leaves.operators.Operator.{Operator}
 use Rattle.rhai_parser.specs.NextOperators.{operator_pair}
 use Rattle.rhai_parser.specs.Runs.{NextIs, in_run, run_at}
 
-pub binary_looked : (c : Context) (w : Live) (at : Position) (parent : ℕ) (x : Node) (s : Progress) → result_of (BinaryOp c w at parent x) (looking s) ≡ result_of (BinaryOp c w at parent x) s
+pub binary_looked : (c : Context) (w : Live) (at : Position) (parent : ℕ) (x : Node) (s : Progress) → result_of (BinaryOp c w at parent x) (after_peek s) ≡ result_of (BinaryOp c w at parent x) s
 unfolding guarded only_less
 binary_looked c w at parent x s =
     let goal = BinaryOp c w at parent x in
-    run_step goal (looking s)
+    run_step goal (after_peek s)
     ∙ ap (λ o. and_then (if nat_lt (need (NextOperator c.filter) s) (need goal s) then o else Unfinished) (λ next t. exec (guarded goal s) (binary_at c w at parent x next) t)) (looked (NextOperator c.filter) _ s refl)
     ∙ sym (run_step goal s)
 
 -- a reader that looks at the next token, and has read what it reads
 run_returns : (g : Goal) (k : Lexeme → Position → Prog (Val g)) (s : Progress) (x : Val g)
-    → body g ≡ Peek k → is_memory (asked s).lexeme ≡ false → k (asked s).lexeme (asked s).at ≡ Ret x
-    → result_of g s ≡ Done x (looking s)
+    → body g ≡ Peek k → is_memory (next_item s).lexeme ≡ false → k (next_item s).lexeme (next_item s).at ≡ Ret x
+    → result_of g s ≡ Done x (after_peek s)
 run_returns g k s x rule readable given =
     run_step g s ∙ ap (λ p. exec (guarded g s) p s) rule
-    ∙ ap (λ m. if m then Refused out_of_memory (looking s) else exec (guarded g s) (k (asked s).lexeme (asked s).at) (looking s)) readable
-    ∙ ap (λ p. exec (guarded g s) p (looking s)) given
+    ∙ ap (λ m. if m then Refused out_of_memory (after_peek s) else exec (guarded g s) (k (next_item s).lexeme (next_item s).at) (after_peek s)) readable
+    ∙ ap (λ p. exec (guarded g s) p (after_peek s)) given
 
 neither : {A : Type 0} (variable called qualified : Bool) (path call plain : A) → (called || qualified) ≡ false → (if variable && qualified then path else if variable && called then call else plain) ≡ plain
 neither true true b path call plain e = absurd cc
@@ -49,18 +49,18 @@ neither true false false path call plain e = refl
 neither false a b path call plain e = refl
 
 -- an operand after which nothing calls it and no path goes on
-pub plain_postfix : (c : Context) (w : Live) (x : Node) (s t : Progress) → is_memory (asked s).lexeme ≡ false → excludes_use (asked s).lexeme ≡ false → t ≡ looking s → result_of (Postfix c w x) s ≡ Done x t
+pub plain_postfix : (c : Context) (w : Live) (x : Node) (s t : Progress) → is_memory (next_item s).lexeme ≡ false → excludes_use (next_item s).lexeme ≡ false → t ≡ after_peek s → result_of (Postfix c w x) s ≡ Done x t
 plain_postfix c w x s t readable none there =
-    run_returns (Postfix c w x) (λ lexeme at. postfix_at c w x lexeme) s x refl readable (neither (is_variable x) (calls (asked s).lexeme) (qualifies (asked s).lexeme) _ _ _ none)
+    run_returns (Postfix c w x) (λ lexeme at. postfix_at c w x lexeme) s x refl readable (neither (is_variable x) (calls (next_item s).lexeme) (qualifies (next_item s).lexeme) _ _ _ none)
     ∙ ap (Done x) (sym there)
 
 -- ---- the operator that comes next
 
-next_found : (filter : ExprFilter) (o : Option Operator) (s : Progress) → is_memory (asked s).lexeme ≡ false → follower_of filter (asked s).lexeme ≡ operator_found o
-    → result_of (NextOperator filter) s ≡ Done (option_map operator_pair o) (looking s)
-next_found filter None s readable found = run_returns (NextOperator filter) (λ lexeme at. next_operator_at at (follower_of filter lexeme)) s None refl readable (ap (next_operator_at (asked s).at) found)
+next_found : (filter : ExprFilter) (o : Option Operator) (s : Progress) → is_memory (next_item s).lexeme ≡ false → follower_of filter (next_item s).lexeme ≡ operator_found o
+    → result_of (NextOperator filter) s ≡ Done (option_map operator_pair o) (after_peek s)
+next_found filter None s readable found = run_returns (NextOperator filter) (λ lexeme at. next_operator_at at (follower_of filter lexeme)) s None refl readable (ap (next_operator_at (next_item s).at) found)
 next_found filter (Some o) s readable found =
-    run_returns (NextOperator filter) (λ lexeme at. next_operator_at at (follower_of filter lexeme)) s (Some (operator_pair o)) refl readable (ap (next_operator_at (asked s).at) found)
+    run_returns (NextOperator filter) (λ lexeme at. next_operator_at at (follower_of filter lexeme)) s (Some (operator_pair o)) refl readable (ap (next_operator_at (next_item s).at) found)
 
 goes_on : (call : Caller) (c : Context) (w : Live) (at : Position) (parent : ℕ) (lhs : Node) (o : Operator) (s : Progress) (b : Bool)
     → exec call (if b then Peek (binary_on c w at parent lhs o.strength) else Ret lhs) s ≡ exec call (run_at c w at parent lhs (if b then Some o else None)) s
@@ -79,10 +79,10 @@ next_is filter o s is c w at parent lhs same =
     ∙ ap (λ u. and_then u (λ next t. exec (guarded goal s) (binary_at c w at parent lhs next) t)) (guarded_is goal s (NextOperator c.filter) s (omega (arith)) ∙ ap (λ f. result_of (NextOperator f) s) same ∙ is)
     ∙ runs_so (guarded goal s) c w at parent lhs o s
 
-pub next_known : (filter : ExprFilter) (s t : Progress) (r : Result (Option Operator) ParseError) → t ≡ looking s → IfOk r (λ o. follower_of filter (asked s).lexeme ≡ operator_found o) → OnOk r (is_memory (asked s).lexeme ≡ false)
+pub next_known : (filter : ExprFilter) (s t : Progress) (r : Result (Option Operator) ParseError) → t ≡ after_peek s → IfOk r (λ o. follower_of filter (next_item s).lexeme ≡ operator_found o) → OnOk r (is_memory (next_item s).lexeme ≡ false)
     → IfOk r (λ o. NextIs filter o t)
 next_known filter s t (Ok o) there found readable =
-    subst (λ u. NextIs filter o u) (sym there) (next_is filter o (looking s) (looked (NextOperator filter) _ s refl ∙ next_found filter o s readable found))
+    subst (λ u. NextIs filter o u) (sym there) (next_is filter o (after_peek s) (looked (NextOperator filter) _ s refl ∙ next_found filter o s readable found))
 next_known filter s t (Err e) there found readable = tt
 
 -- ---- where an operand ends
@@ -102,8 +102,8 @@ no_links w q l at link.Nothing e = refl
 no_links w q l at link.Bracket e = absurd cc
 no_links w q l at link.Dot e = absurd cc
 
-pub plain_links : (c : Context) (w : Live) (x : Node) (s : Progress) → is_memory (asked s).lexeme ≡ false → is_link (linking (asked s).lexeme) ≡ false → s ≡ looking s → result_of (Links w (spot_after_operand c x)) s ≡ Done [] s
+pub plain_links : (c : Context) (w : Live) (x : Node) (s : Progress) → is_memory (next_item s).lexeme ≡ false → is_link (linking (next_item s).lexeme) ≡ false → s ≡ after_peek s → result_of (Links w (spot_after_operand c x)) s ≡ Done [] s
 plain_links c w x s readable none seen =
     let q = spot_after_operand c x in
-    run_returns (Links w q) (λ lexeme at. links_at w q lexeme at (linking lexeme)) s [] refl readable (no_links w q (asked s).lexeme (asked s).at (linking (asked s).lexeme) none)
+    run_returns (Links w q) (λ lexeme at. links_at w q lexeme at (linking lexeme)) s [] refl readable (no_links w q (next_item s).lexeme (next_item s).at (linking (next_item s).lexeme) none)
     ∙ ap (Done []) (sym seen)

@@ -12,26 +12,25 @@ use Rattle.rhai_base.specs.declared.settings.ParseSettings.{ParseSettings}
 use Rattle.rhai_parser.specs.Engines.{EngineValue}
 use Rattle.std.specs.Prelude.{◌⊎◌}
 use Rattle.rhai_grammar.specs.Cursors.{Cursor}
-use Rattle.rhai_grammar.specs.Depths.{statements_depth}
-use Rattle.rhai_grammar.specs.Forms.{Statements}
 use Rattle.rhai_grammar.specs.Libraries.{Library}
 use Rattle.rhai_grammar.specs.NumberedLibraries.{IsOrderly}
-use Rattle.rhai_grammar.specs.Promises.{IsWritten, scripts}
 use Rattle.rhai_parser.specs.Nesting.{KeepsCounts, NestsAsWritten, StaysWithin}
 use Rattle.rhai_reading.specs.Nesting.{Nesting, entered}
-use Rattle.rhai_reading.proofs.DepthMain.{script_nests}
-use Rattle.rhai_reading.proofs.Main.{IsNew}
+use Rattle.rhai_reading.proofs.Entries.{IsNew}
+use Rattle.rhai_grammar.specs.Forms.{depth}
+use Rattle.rhai_grammar.specs.Rules.{production}
+use Rattle.rhai_productions.proofs.Depth.{nests}
 use Rattle.std.proofs.Math.Nat.{le_refl}
 use Rattle.rhai_base.specs.Counts.{counts_of}
 use Rattle.rhai_base.specs.Frames.{FrameValue}
-use Rattle.rhai_parser.specs.Rooms.{Holds, IsWithin, Stays, function_room}
+use Rattle.rhai_parser.specs.Heights.{Holds, IsWithin, Stays, function_height}
 use Rattle.rhai_parser.specs.declared.shared.Shared.{Shared}
-use Rattle.rhai_parser.proofs.Rooms.{function_room_most, gap_most}
+use Rattle.rhai_parser.proofs.Heights.{function_room_most, gap_most}
 use Rattle.std.proofs.Common.{inl, inr}
 
 -- what the code's reader of a script leaves
 pub stays_read : (engine : EngineValue) (frame : FrameValue) (settings : ParseSettings) (old new : Shared)
-    → Stays engine frame settings (2 + function_room engine settings) old new
+    → Stays engine frame settings (2 + function_height engine settings) old new
     → StaysWithin 1 engine settings (counts_of old.counts) (counts_of new.counts)
 unfolding IsWithin
 stays_read engine frame settings old new h positive more =
@@ -42,7 +41,7 @@ stays_read engine frame settings old new h positive more =
     let function = function_room_most engine settings in
     (h.nesting a top positive more (omega (arith, right, levels, function)) (le_refl a, le-max_left _ _)).1
 
--- a library stays orderly in the state of an entry, from which its frame has how many have begun
+-- a library stays orderly in the state of an entry point, from which its frame has how many have begun
 pub orderly_so : (engine : EngineValue) (begun here : ℕ) (old new : Library) → engine.max_functions ≤ 2 ^ 64
     → here ≡ begun → (Holds engine.max_functions here old → Holds engine.max_functions here new)
     → IsOrderly engine.max_functions begun old → IsOrderly engine.max_functions begun new
@@ -50,7 +49,7 @@ unfolding Holds
 orderly_so engine begun here old new bound is h =
     subst (λ n. IsOrderly engine.max_functions n old → IsOrderly engine.max_functions n new) is (λ g. (h (g, bound)).0)
 
--- the entry itself is one more
+-- the entry point itself is one more
 pub with_entry : (p a peak n : ℕ) → peak ≤ max (max p (one_more a)) (one_more a + 8 * (n + 1))
     → peak ≤ max p (a + 8 * (n + 2))
 unfolding one_more
@@ -62,7 +61,7 @@ with_entry p a peak n h =
     let both : max (max p (min (a + 1) (2 ^ 64 - 1))) (min (a + 1) (2 ^ 64 - 1) + 8 * (n + 1)) ≤ max p (a + 8 * (n + 2)) = max-le first (omega (arith, less, right)) in
     omega (arith, h, both)
 
--- so it is for the entry, which is entered in counts of its own, and takes their peak
+-- so it is for the entry point, which is entered in counts of its own, and takes their peak
 pub entry_stays : (engine : EngineValue) (settings : ParseSettings) (old begun read left : Counts)
     → begun ≡ with_entered old → left ≡ with_peak old read.peak → StaysWithin 1 engine settings begun read
     → StaysWithin 2 engine settings old left
@@ -87,34 +86,34 @@ keeps_counts old left n reached = record {
 
 -- ---- from below
 
--- the entry is the first that is active
+-- the entry point is the first that is active
 pub nests_written : (c : Context) (w : Live) (s left : Progress) (x : node.Statements × Live) (after : Counts) → IsNew s
     → s.nesting ≡ entered (record { active = 0; peak = 0 }) → left.nesting.peak ≡ after.peak
     → result_of (Script c w) s ≡ Done x left → NestsAsWritten c w s.library s.cursor after
 unfolding one_more
-nests_written c w s left x after new first last e fs written =
+nests_written c w s left x after new first last e f written =
     let active : s.nesting.active ≡ 1 = ap (λ (n : Nesting). n.active) first in
     let peak : s.nesting.peak ≡ 1 = ap (λ (n : Nesting). n.peak) first in
-    subst (λ p. (2 ^ 64 - 1 ≤ p) ⊎ (1 + statements_depth fs ≤ p)) last (
-    subst (λ a. (2 ^ 64 - 1 ≤ left.nesting.peak) ⊎ (a + statements_depth fs ≤ left.nesting.peak)) active
-    (script_nests c w s left new x fs written (omega (arith, active, peak)) e))
+    subst (λ p. (2 ^ 64 - 1 ≤ p) ⊎ (1 + depth production f.1 ≤ p)) last (
+    subst (λ a. (2 ^ 64 - 1 ≤ left.nesting.peak) ⊎ (a + depth production f.1 ≤ left.nesting.peak)) active
+    (nests (Script c w) s new f written left x (omega (arith, active, peak)) e))
 
 -- what holds of all results holds of one
 pub if_ok : {A : Type 0} {P : Type 0} (r : Result A ParseError) → P → IfOk r (λ x. P)
 if_ok (Ok x) p = p
 if_ok (Err e) p = tt
 
--- the entry takes the peak
+-- the entry point takes the peak
 pub nests_left : {A : Type 0} (c : Context) (w : Live) (before : Library) (s : Cursor) (old read left : Counts) (r : Result A ParseError)
     → left ≡ with_peak old read.peak → IfOk r (λ x. NestsAsWritten c w before s read) → IfOk r (λ x. NestsAsWritten c w before s left)
-nests_left c w before s old read left (Ok x) reached nests = λ fs written.
-    subst (λ (n : Counts). (2 ^ 64 - 1 ≤ n.peak) ⊎ (1 + statements_depth fs ≤ n.peak)) (sym reached) (by _ (nests fs written))
+nests_left c w before s old read left (Ok x) reached at_least = λ f written.
+    subst (λ (n : Counts). (2 ^ 64 - 1 ≤ n.peak) ⊎ (1 + depth production f.1 ≤ n.peak)) (sym reached) (by _ (at_least f written))
   where
     by : (d : ℕ) → (2 ^ 64 - 1 ≤ read.peak) ⊎ (d ≤ read.peak)
         → (2 ^ 64 - 1 ≤ max old.peak read.peak) ⊎ (d ≤ max old.peak read.peak)
     by d (inl top) = let right = le-max_right old.peak read.peak in inl (omega (arith, top, right))
     by d (inr deep) = let right = le-max_right old.peak read.peak in inr (omega (arith, deep, right))
-nests_left c w before s old read left (Err e) reached nests = tt
+nests_left c w before s old read left (Err e) reached at_least = tt
 
 -- what nests, of counts
 abbrev pub seen_of : Counts → Nesting

@@ -11,23 +11,23 @@ use Rattle.rhai_grammar.specs.Modules.{module_fault}
 use Rattle.rhai_grammar.specs.Spots.{spot_after_operand}
 use Rattle.rhai_reading.specs.Reading.{Call, Links, Operand, Postfix, Primary, operand_by, tested}
 use Rattle.rhai_reading.specs.Running as R
-use Rattle.rhai_reading.specs.Running.{Caller, Progress, asked, entering, exec, guarded, leaving, looking, nested, result_of}
+use Rattle.rhai_reading.specs.Running.{Caller, Progress, next_item, entering, exec, guarded, leaving, after_peek, nested, result_of}
 use Rattle.rhai_reading.proofs.Outcomes.{operand_other}
 use Rattle.rhai_reading.proofs.Steps.{guarded_is, looked, nested_is, run_step}
 use Rattle.rhai_parser.specs.Operands.{operand_ends}
 
 -- after its first part
-pub operand_begun : (c : Context) (w : Live) (x : Node) (s t : Progress) → is_memory (asked s).lexeme ≡ false → is_sign (beginning (asked s).lexeme) ≡ false → nested (result_of (Primary c w)) (looking s) ≡ R.Done x t
+pub operand_begun : (c : Context) (w : Live) (x : Node) (s t : Progress) → is_memory (next_item s).lexeme ≡ false → is_sign (beginning (next_item s).lexeme) ≡ false → nested (result_of (Primary c w)) (after_peek s) ≡ R.Done x t
     → result_of (Operand c w) s ≡ exec (guarded (Operand c w) s) (operand_ends c w x) t
 operand_begun c w x s t readable unsigned read =
     let g = Operand c w in
     let call : Caller = guarded g s in
-    let l = (asked s).lexeme in
-    let at = (asked s).at in
+    let l = (next_item s).lexeme in
+    let at = (next_item s).at in
     run_step g s
-    ∙ ap (λ m. if m then R.Refused out_of_memory (looking s) else exec call (operand_by c w l at (beginning l)) (looking s)) readable
-    ∙ ap (λ p. exec call p (looking s)) (operand_other c w l at (beginning l) unsigned)
-    ∙ ap (λ o. R.and_then o (λ y u. exec call (operand_ends c w y) u)) (nested_is g s (Primary c w) (looking s) (omega (arith)) ∙ read)
+    ∙ ap (λ m. if m then R.Refused out_of_memory (after_peek s) else exec call (operand_by c w l at (beginning l)) (after_peek s)) readable
+    ∙ ap (λ p. exec call p (after_peek s)) (operand_other c w l at (beginning l) unsigned)
+    ∙ ap (λ o. R.and_then o (λ y u. exec call (operand_ends c w y) u)) (nested_is g s (Primary c w) (after_peek s) (omega (arith)) ∙ read)
 
 module _ (c : Context) (w : Live) (x : Node) (s t : Progress) (less : left t.cursor.tokens ≤ left s.cursor.tokens) where
   call : Caller
@@ -38,12 +38,12 @@ module _ (c : Context) (w : Live) (x : Node) (s t : Progress) (less : left t.cur
   after y u = exec call (Call (Links w (spot_after_operand c y)) (λ links. tested (chained y links) (module_fault c w y))) u
 
   -- where the next token was looked at
-  pub ends_looked : exec (guarded (Operand c w) s) (operand_ends c w x) (looking t) ≡ exec (guarded (Operand c w) s) (operand_ends c w x) t
+  pub ends_looked : exec (guarded (Operand c w) s) (operand_ends c w x) (after_peek t) ≡ exec (guarded (Operand c w) s) (operand_ends c w x) t
   unfolding call after nested
   ends_looked =
       let g = Operand c w in
       let h = Postfix c w x in
-      ap (λ o. R.and_then (R.left_so o) after) (guarded_is g s h (entering (looking t)) (omega (arith, less)) ∙ looked h _ (entering t) refl ∙ sym (guarded_is g s h (entering t) (omega (arith, less))))
+      ap (λ o. R.and_then (R.left_so o) after) (guarded_is g s h (entering (after_peek t)) (omega (arith, less)) ∙ looked h _ (entering t) refl ∙ sym (guarded_is g s h (entering t) (omega (arith, less))))
 
   -- where nothing calls it, and no link follows
   pub ends_plain : result_of (Postfix c w x) (entering t) ≡ R.Done x (entering t) → result_of (Links w (spot_after_operand c x)) (leaving (entering t)) ≡ R.Done [] (leaving (entering t))

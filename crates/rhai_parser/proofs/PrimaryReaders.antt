@@ -7,7 +7,7 @@ use Rattle.rhai_reading.proofs.Steps.{nested_so, step_closure, step_closure_body
 use Rattle.rhai_parser.proofs.PrimaryLemmas.{value_begins}
 use Rattle.rhai_parser.proofs.Readers.{calls_of_readers, readers}
 use Rattle.rhai_trees.proofs.LinkedLemmas.{array_value, block_is_value, closure_is_value, integer_value, interpolated_value, literal_value, map_value}
-use Rattle.rhai_parser.proofs.Rooms.{given_up}
+use Rattle.rhai_parser.proofs.Heights.{given_up}
 
 pub ruleset parse_primary = (readers, nested_so, step_primary, view_integer, view_array, view_map, view_interpolated, literal_value, integer_value, array_value, map_value, interpolated_value, block_is_value)
 

@@ -15,11 +15,8 @@ use Rattle.rhai_grammar.specs.Causes.{refusal_of, is_for_memory}
 use Rattle.rhai_grammar.specs.Cursors.{Cursor}
 use Rattle.rhai_grammar.specs.Contexts.{Context, Live}
 use Rattle.rhai_grammar.specs.Demands.{Demands}
-use Rattle.rhai_grammar.specs.Forms as form
 use Rattle.rhai_grammar.specs.Libraries.{Library}
-use Rattle.rhai_grammar.specs.Trees.{statement_trees, tree}
-use Rattle.rhai_grammar.specs.Definitions.{after_statements}
-use Rattle.rhai_grammar.specs.Promises.{HasRead, ReadsWhole, Returns, UnlessMemory, scripts}
+use Rattle.rhai_grammar.specs.Promises.{HasRead, ReadsWhole, Returns, UnlessMemory, Written}
 use Rattle.rhai_grammar.specs.declared.key.FnKey.{FnKey}
 use Rattle.rhai_base.specs.Libraries.{Begins, Grows, library_of}
 use Rattle.rhai_parser.specs.Scripts.{Accepts, Constants, IsMadeOf, Makes, IsScript, IsScriptOf, ReadsAst, ReadsExpression, ReadsScript, function_views, functions_in}
@@ -28,8 +25,9 @@ use Rattle.rhai_grammar.specs.declared.error.ParseError.{ParseError}
 use Rattle.rhai_base.proofs.ErrorLemmas.{memory_cause}
 use Rattle.rhai_reading.specs.Reading.{Goal, Script, Val, Whole}
 use Rattle.rhai_reading.specs.Running.{Done, Fails, Progress, result_of}
-use Rattle.rhai_reading.proofs.Main as M
-use Rattle.rhai_reading.proofs.Main.{Entry, IsNew, expression_entry, script_entry}
+use Rattle.rhai_reading.proofs.Entries as M
+use Rattle.rhai_reading.proofs.Entries.{Entry, IsNew}
+use Rattle.rhai_productions.proofs.Main.{expression_entry, reads_done, reads_fails, script_entry}
 
 -- ---- functions
 
@@ -82,78 +80,46 @@ pub read_so : (s left : Cursor) → HasRead s left false → HasRead s left true
 read_so s left h =
     record { taken = h.taken; saw = h.saw; modes = h.modes; mode = inl h.mode; memory = h.memory }
 
--- a result that holds with the functions that there are
-both_so : {X : Type 0} (Is : X → Type 0) (after other : Library) (result : Result X ParseError) → Returns Is result
-    → after ≡ other → Returns (λ x. Is x × (after ≡ other)) result
-both_so Is after other (Ok x) is same = (is, same)
-both_so Is after other (Err e) is same = is
-
-by_memory : (b : Bool) → (b ≡ false → ⊥) → b ≡ true
-by_memory true h = refl
-by_memory false h = absurd (h refl)
-
 -- memory ran out
-pub reads_none : {F X : Type 0} (whole : F → Demands) (Is : F → X → Type 0) (before after : Library) (s left : Cursor) (e : ParseError)
-    → is_for_memory e ≡ true → ReadsWhole whole Is before after s left (Err e)
-reads_none whole Is before after s left e out = record {
+pub reads_none : {X : Type 0} (g : Goal) (Is : Written g → X → Type 0) (before after : Library) (s left : Cursor) (e : ParseError)
+    → is_for_memory e ≡ true → ReadsWhole g Is before after s left (Err e)
+reads_none g Is before after s left e out = record {
   accepted = tt;
   only = λ f other written. out;
-  refused = λ other. absurd (let w = sym out ∙ other in cc);
+  refused = λ told. absurd (let w = sym out ∙ told in cc);
 }
-
-module _ {F X : Type 0} {g : Goal} {whole : F → Demands} {tree_of : F → Val g} (E : Entry g whole tree_of)
-    (Is : F → X → Type 0) (s left : Progress) where
-  -- a form that was read, and what is made of it
-  pub reads_done : (v : Val g) (result : Result X ParseError) → IsNew s → result_of g s ≡ Done v left
-      → IfErr result (λ e. is_for_memory e ≡ true) → ((f : F) → tree_of f ≡ v → Returns (Is f) result)
-      → ReadsWhole whole Is s.library left.library s.cursor left.cursor result
-  reads_done v (Ok x) mode e out is = record {
-    accepted = (let w = M.accepted E s left v mode e in (w.0, w.2, is w.0 w.1));
-    only = λ f other written. (let w = M.accepted_only E s left v mode e f other written in (is f (sym w.0), w.1));
-    refused = tt;
-  }
-  reads_done v (Err d) mode e out is = reads_none whole Is s.library left.library s.cursor left.cursor d out
-
-  -- an error, of the reading program or if memory ran out
-  pub reads_fails : (e : ParseError) → IsNew s → Fails (result_of g s) e left
-      → ReadsWhole whole Is s.library left.library s.cursor left.cursor (Err e)
-  reads_fails e mode fails = record {
-    accepted = tt;
-    only = λ f other written. by_memory (is_for_memory e)
-        (λ told. M.refused_none E s left (refusal_of e) mode (fails.0 told) f (written.0, written.1));
-    refused = λ told. M.refused E s left (refusal_of e) mode (fails.0 told) (memory_cause e.0 ∙ told);
-  }
 
 -- ---- what was seen
 
-module _ {F X : Type 0} {g : Goal} {whole : F → Demands} {tree_of : F → Val g} (E : Entry g whole tree_of)
-    (s left : Progress) where
+module _ {F O X : Type 0} {g : Goal} {whole : F → Demands} {stopping : O → Demands} {tree : F → Val g}
+    (E : Entry g whole stopping tree) (s left : Progress) where
   pub has_read_done : (v : Val g) (result : Result X ParseError) → result_of g s ≡ Done v left
       → UnlessMemory (HasRead s.cursor left.cursor) result
   has_read_done v (Ok x) e = M.done_read E s left v e
   has_read_done v (Err d) e = λ other. read_so s.cursor left.cursor (M.done_read E s left v e)
 
-module _ {F : Type 0} {g : Goal} {whole : F → Demands} {tree_of : F → Val g} (E : Entry g whole tree_of)
-    (s left : Progress) where
+module _ {F O : Type 0} {g : Goal} {whole : F → Demands} {stopping : O → Demands} {tree : F → Val g}
+    (E : Entry g whole stopping tree) (s left : Progress) where
   pub has_read_fails : (e : ParseError) → Fails (result_of g s) e left → is_for_memory e ≡ false
       → HasRead s.cursor left.cursor true
   has_read_fails e fails other = M.refused_read E s left (refusal_of e) (fails.0 other) (memory_cause e.0 ∙ other)
 
--- ---- the two entries
+-- ---- the two kinds of entry points
 
 module _ (makes : Makes) (constants : Constants) (level : OptimizationLevel) (c : Context) (live : Live) (s left : Progress) where
   pub expression_done : (x : Node) (result : Result AST ParseError) → IsNew s → result_of (Whole c live) s ≡ Done x left
       → Accepts makes constants level x left.library result
       → ReadsExpression makes c live s.library left.library s.cursor left.cursor constants level result
   expression_done x result mode e is =
-      reads_done (expression_entry c live) (λ f script. IsScriptOf makes constants level (tree f live) left.library script) s left x result mode e
+      reads_done (expression_entry c live) (λ f script. IsScriptOf makes constants level f.0 left.library script) s left x result mode e
       (ran_out (IsScriptOf makes constants level x left.library) result is)
       (λ f same. subst (λ y. Accepts makes constants level y left.library result) (sym same) is)
 
   pub expression_fails : (e : ParseError) → IsNew s → Fails (result_of (Whole c live) s) e left
       → ReadsExpression makes c live s.library left.library s.cursor left.cursor constants level (Err e)
   expression_fails e mode fails =
-      reads_fails (expression_entry c live) (λ f script. IsScriptOf makes constants level (tree f live) left.library script) s left e mode fails
+      reads_fails (expression_entry c live) (λ f script. IsScriptOf makes constants level f.0 left.library script) s left e
+      (memory_cause e.0) mode fails
 
 abbrev pub Read : Type 0
 Read = Vec Stmt Global × Vec (Rc ScriptFuncDef Global) Global
@@ -163,18 +129,13 @@ abbrev IsMade : Library → Statements → Result Read ParseError → Type 0
 IsMade library ss result =
     IfOk result (λ r. (statement_views r.0.items ≡ ss) × (function_views r.1.items ≡ functions_in library))
 
-made_so : (library : Library) (live left : Live) (ss : Statements) (slots : List SlotValue) (modules : List Text)
+made_so : (library : Library) (left : Live) (ss : Statements) (slots : List SlotValue) (modules : List Text)
     (result : Result Read ParseError) → slots ≡ left.slots → modules ≡ left.imports
-    → IfErr result (λ e. is_for_memory e ≡ true) → IsMade library ss result → (fs : form.Statements)
-    → statement_trees fs live ≡ ss → after_statements fs live ≡ left
-    → Returns (λ script. IsScript fs live library script slots modules) result
-made_so library live left ss slots modules (Ok r) same too out is fs trees lives = record {
-  statements = is.0 ∙ sym trees;
-  functions = is.1;
-  slots = same ∙ ap (λ (w : Live). w.slots) (sym lives);
-  imports = too ∙ ap (λ (w : Live). w.imports) (sym lives);
-}
-made_so library live left ss slots modules (Err e) same too out is fs trees lives = out
+    → IfErr result (λ e. is_for_memory e ≡ true) → IsMade library ss result
+    → Returns (λ script. IsScript (ss, left) library script slots modules) result
+made_so library left ss slots modules (Ok r) same too out is =
+    record { statements = is.0; functions = is.1; slots = same; imports = too }
+made_so library left ss slots modules (Err e) same too out is = out
 
 -- a script that was read, and the slots and imports that it leaves
 pub script_done : (c : Context) (live left : Live) (s t : Progress) (ss : Statements) (slots : List SlotValue)
@@ -183,14 +144,16 @@ pub script_done : (c : Context) (live left : Live) (s t : Progress) (ss : Statem
     → IfErr result (λ e. is_for_memory e ≡ true) → IsMade t.library ss result
     → ReadsScript c live s.library t.library s.cursor t.cursor result slots modules
 script_done c live left s t ss slots modules result mode read same too out is =
-    reads_done (script_entry c live) (λ fs script. IsScript fs live t.library script slots modules) s t (ss, left) result mode read out
-    (λ fs tree. made_so t.library live left ss slots modules result same too out is fs (ap (λ v. v.0) tree) (ap (λ v. v.1) tree))
+    reads_done (script_entry c live) (λ f script. IsScript f.0 t.library script slots modules) s t (ss, left) result mode read out
+    (λ f tree. subst (λ x. Returns (λ script. IsScript x t.library script slots modules) result) (sym tree)
+    (made_so t.library left ss slots modules result same too out is))
 
 pub script_fails : (c : Context) (live : Live) (s left : Progress) (e : ParseError) (slots : List SlotValue)
     (modules : List Text) → IsNew s → Fails (result_of (Script c live) s) e left
     → ReadsScript c live s.library left.library s.cursor left.cursor (Err e) slots modules
 script_fails c live s left e slots modules mode fails =
-    reads_fails (script_entry c live) (λ fs script. IsScript fs live left.library script slots modules) s left e mode fails
+    reads_fails (script_entry c live) (λ f script. IsScript f.0 left.library script slots modules) s left e (memory_cause e.0)
+    mode fails
 
 -- ---- what an optimizer makes of a script
 
@@ -211,22 +174,22 @@ made_of makes constants level trees library ss fs (Err e) trees_are functions_ar
 
 module _ (c : Context) (live : Live) (before after : Library) (s left : Cursor) (slots : List SlotValue) (modules : List Text)
     (makes : Makes) (constants : Constants) (level : OptimizationLevel) where
-  made : (read : Read) (fs : form.Statements) (result : Result AST ParseError) → IsScript fs live after read slots modules
+  made : (read : Read) (trees : Statements × Live) (result : Result AST ParseError) → IsScript trees after read slots modules
       → IfOk result (makes constants read.0 read.1 level) → IfErr result (λ e. is_for_memory e ≡ true)
-      → Returns (IsMadeOf makes constants level (statement_trees fs live) after) result
-  made read fs result is =
-      made_of makes constants level (statement_trees fs live) after read.0 read.1 result is.statements is.functions
+      → Returns (IsMadeOf makes constants level trees.0 after) result
+  made read trees result is =
+      made_of makes constants level trees.0 after read.0 read.1 result is.statements is.functions
 
   pub ast_done : (read : Read) (result : Result AST ParseError) → ReadsScript c live before after s left (Ok read) slots modules
       → IfOk result (makes constants read.0 read.1 level) → IfErr result (λ e. is_for_memory e ≡ true)
       → ReadsAst makes c live before after s left constants level result
   ast_done read (Ok script) reads so out = record {
-    accepted = (let w = reads.accepted in (w.0, w.1, made read w.0 (Ok script) w.2 so out));
-    only = λ fs other written. (let w = reads.only fs other written in (made read fs (Ok script) w.0 so out, w.1));
+    accepted = (let w = reads.accepted in (w.0, w.1, made read w.0.0 (Ok script) w.2 so out));
+    only = λ f other written. (let w = reads.only f other written in (made read f.0 (Ok script) w.0 so out, w.1));
     refused = tt;
   }
   ast_done read (Err e) reads so out =
-      reads_none (scripts c live) (λ fs script. IsMadeOf makes constants level (statement_trees fs live) after script) before after s left e out
+      reads_none (Script c live) (λ f script. IsMadeOf makes constants level f.0.0 after script) before after s left e out
 
   pub ast_fails : (e : ParseError) → ReadsScript c live before after s left (Err e) slots modules
       → ReadsAst makes c live before after s left constants level (Err e)

@@ -5,19 +5,19 @@ use Rattle.rhai_lower.specs.Nodes.{Node, position_of}
 use Rattle.rhai_lower.specs.declared.position.Position.{Position}
 use Rattle.rhai_trees.specs.Chains.{chain_view}
 use Rattle.rhai_grammar.specs.Causes.{Refusal, refusal, ExprTooDeep, out_of_memory}
-use Rattle.rhai_grammar.specs.Contexts.{Context, Live, has_room, level_up}
+use Rattle.rhai_grammar.specs.Contexts.{Context, Live, may_raise, level_up}
 use Rattle.rhai_grammar.specs.Cursors.{left}
 use Rattle.rhai_grammar.specs.Delivered.{is_memory}
 use Rattle.rhai_grammar.specs.Operators.{operator_result}
 use Rattle.rhai_grammar.specs.Settings.{level_up as level_up_settings}
-use Rattle.rhai_grammar.specs.Starts.{place_after}
+use Rattle.rhai_grammar.specs.Starts.{role_after}
 use Rattle.rhai_base.specs.Frames.{FrameValue}
 use Rattle.rhai_base.specs.Settings.{levels_left, settings_of}
 use Rattle.rhai_base.specs.declared.leaves.operators.Operator.{Operator}
 use Rattle.rhai_base.specs.declared.settings.ParseSettings.{ParseSettings}
 use Rattle.rhai_reading.specs.Reading.{BinaryOp, Call, Fail, NextOperator, Peek, Prog, Ret, RightOperand, binary_next, binary_on, binary_right, raised}
 use Rattle.rhai_reading.specs.Running as R
-use Rattle.rhai_reading.specs.Running.{Caller, Progress, asked, exec, guarded, looking, nested, result_of, taking}
+use Rattle.rhai_reading.specs.Running.{Caller, Progress, next_item, exec, guarded, after_peek, nested, result_of, after_take}
 use Rattle.rhai_reading.proofs.Outcomes.{binary_done, binary_refused}
 use Rattle.rhai_reading.proofs.Steps.{and_then_done, guarded_is}
 use Rattle.rhai_parser.specs.Frames.{context_of, live_of}
@@ -51,15 +51,15 @@ behind_side call c w parent lhs n side t =
 
 side_first : (call : Caller) (c : Context) (w : Live) (at : Position) (parent : ℕ) (lhs : Node) (n : ℕ) (s : Progress) → exec call (Peek (binary_on c w at parent lhs n)) s ≡ R.and_then (exec call (right_side c w at) s) (behind_side call c w parent lhs n)
 side_first call c w at parent lhs n s =
-    let op = (asked s).lexeme in
-    let pos = (asked s).at in
+    let op = (next_item s).lexeme in
+    let pos = (next_item s).at in
     let behind = behind_side call c w parent lhs n in
     let raise : (x : Node) (u : Progress) → exec call (raised c at (λ d. Call (BinaryOp d w (position_of x) n x) (binary_next d w parent lhs op pos))) u ≡ R.and_then (exec call (raised c at (λ d. Ret (op, pos, x))) u) behind =
-    λ x u. where_room call (has_room c) (Call (BinaryOp (level_up c) w (position_of x) n x) (binary_next (level_up c) w parent lhs op pos)) (Ret (op, pos, x)) (refusal ExprTooDeep at) u behind refl in
+    λ x u. where_room call (may_raise c) (Call (BinaryOp (level_up c) w (position_of x) n x) (binary_next (level_up c) w parent lhs op pos)) (Ret (op, pos, x)) (refusal ExprTooDeep at) u behind refl in
     let look : (x : Node) (t : Progress) → exec call (binary_right c w at parent lhs n op pos x) t ≡ R.and_then (exec call (Call (NextOperator c.filter) (λ next. raised c at (λ d. Ret (op, pos, x)))) t) behind =
     λ x t. regrouped (call (NextOperator c.filter) t) _ (λ next u. exec call (raised c at (λ d. Ret (op, pos, x))) u) behind (λ next u. raise x u) in
-    unless_out (is_memory op) (looking s) (looking s) _ _ behind
-    (regrouped (nested (call (RightOperand c w (place_after op))) (taking s)) _ (λ x t. exec call (Call (NextOperator c.filter) (λ next. raised c at (λ d. Ret (op, pos, x)))) t) behind look)
+    unless_out (is_memory op) (after_peek s) (after_peek s) _ _ behind
+    (regrouped (nested (call (RightOperand c w (role_after op))) (after_take s)) _ (λ x t. exec call (Call (NextOperator c.filter) (λ next. raised c at (λ d. Ret (op, pos, x)))) t) behind look)
 
 -- What is refused on the right of an operator is refused by the run around.
 pub right_refused : (c : Context) (w : Live) (at : Position) (parent : ℕ) (lhs : Node) (n : ℕ) (s s1 t : Progress) (e : Refusal) → result_of (BinaryOp c w at parent lhs) s ≡ exec (guarded (BinaryOp c w at parent lhs) s) (Peek (binary_on c w at parent lhs n)) s1

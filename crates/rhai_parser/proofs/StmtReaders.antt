@@ -3,7 +3,7 @@
 use Rattle.rhai_lower.proofs.Views.{view_noop, view_unit}
 use Rattle.rhai_reading.proofs.Steps.{nested_so, step_block, step_comments, step_definition, step_export, step_expr_statement, step_function, step_function_statement, step_import, step_initializer, step_inside, step_jump, step_parameter_list, step_statement, step_statements}
 use Rattle.rhai_parser.proofs.Readers.{calls_of_readers, readers}
-use Rattle.rhai_parser.proofs.Rooms.{function_ends, gap_most, given_up, no_function, one_function}
+use Rattle.rhai_parser.proofs.Heights.{function_ends, gap_most, given_up, no_function, one_function}
 
 pub ruleset parse_statements = (readers, nested_so, step_statements)
 

@@ -2,7 +2,7 @@
 -- they are.
 use Rattle.std.specs.Prelude.{◌≡◌, []}
 use Rattle.rhai_grammar.specs.Contexts.{nothing_live}
-use Rattle.rhai_grammar.specs.RowsOfEntries.{entry_expression, entry_script}
+use Rattle.rhai_grammar.specs.EntryContexts.{entry_expression, entry_script}
 use Rattle.rhai_base.specs.Frames.{known_variables}
 use Rattle.rhai_base.specs.States.{IsFresh}
 use Rattle.rhai_parser.specs.Engines.{expr_settings, fresh_engine, script_settings}

@@ -2,7 +2,7 @@ pub mod Bounds
 pub mod Frames
 pub mod Engines
 pub mod Readers
-pub mod Rooms
+pub mod Heights
 pub mod NextOperators
 pub mod Runs
 pub mod ExprViews

@@ -6,13 +6,13 @@ use Rattle.rhai_lower.specs.declared.position.Position.{Position}
 use Rattle.rhai_lower.specs.declared.ast.Ident.{Ident}
 use Rattle.rhai_grammar.specs.Causes as cause
 use Rattle.rhai_grammar.specs.Causes.{Refusal, refusal}
-use Rattle.rhai_grammar.specs.Cursors.{Cursor, asked, looking, taking}
+use Rattle.rhai_grammar.specs.Cursors.{Cursor, next_item, after_peek, after_take}
 use Rattle.rhai_grammar.specs.Literals as literal
-use Rattle.rhai_grammar.specs.Literals.{KeyPlace, has_key}
+use Rattle.rhai_grammar.specs.Literals.{KeyRole, has_key}
 
 -- What stands where a key may, at this position, is this key, which none of the properties has; none where the object
 -- map ends.
-abbrev pub KeyIs : (before : Properties) → Position → KeyPlace → Option Ident → Type 0
+abbrev pub KeyIs : (before : Properties) → Position → KeyRole → Option Ident → Type 0
 KeyIs before at place None = place ≡ literal.FieldsEnd
 KeyIs before at place (Some key) =
     (place ≡ literal.AKey (rc_str_bytes key.name)) × (key.pos ≡ at)
@@ -20,8 +20,8 @@ KeyIs before at place (Some key) =
 
 -- What stands where a key may is refused: it is none and stays, or it is the key of one of the properties and was
 -- taken.
-abbrev pub KeyRefused : (before : Properties) → Cursor → KeyPlace → Refusal → Cursor → Type 0
+abbrev pub KeyRefused : (before : Properties) → Cursor → KeyRole → Refusal → Cursor → Type 0
 KeyRefused before s literal.FieldsEnd e t = ⊥
-KeyRefused before s (literal.NoKey why) e t = (e ≡ refusal why (asked s).at) × (t ≡ looking s)
+KeyRefused before s (literal.NoKey why) e t = (e ≡ refusal why (next_item s).at) × (t ≡ after_peek s)
 KeyRefused before s (literal.AKey key) e t =
-    (has_key key before ≡ true) × (e ≡ refusal (cause.DuplicatedProperty key) (asked s).at) × (t ≡ taking s)
+    (has_key key before ≡ true) × (e ≡ refusal (cause.DuplicatedProperty key) (next_item s).at) × (t ≡ after_take s)

@@ -2,10 +2,12 @@
 use Rattle.std.specs.Prelude.{◌≡◌, ◌⊎◌, ℕ, ◌+◌, ◌-◌, ◌*◌, ◌^◌, ◌≤◌, max}
 use Rattle.rhai_grammar.specs.Contexts.{Context, Live}
 use Rattle.rhai_grammar.specs.Cursors.{Cursor}
-use Rattle.rhai_grammar.specs.Depths.{statements_depth}
-use Rattle.rhai_grammar.specs.Forms.{Statements}
 use Rattle.rhai_grammar.specs.Libraries.{Library}
-use Rattle.rhai_grammar.specs.Promises.{IsWritten, scripts}
+use Rattle.rhai_grammar.specs.Promises.{IsWritten}
+use Rattle.rhai_reading.specs.Reading.{Script}
+use Rattle.rhai_grammar.specs.Forms.{depth}
+use Rattle.rhai_grammar.specs.Promises.{Written, written}
+use Rattle.rhai_grammar.specs.Rules.{production}
 use Rattle.rhai_base.specs.Counts.{Counts}
 use Rattle.rhai_base.specs.declared.settings.ParseSettings.{ParseSettings}
 use Rattle.rhai_parser.specs.Engines.{EngineValue}
@@ -25,9 +27,9 @@ pub record KeepsCounts (before after : Counts) : Type 0 where
   pub active : after.active ≡ before.active
   pub peak : before.peak ≤ after.peak
 
--- For each script that fits and spells the stream, at least as many parsing functions were active at once as its
--- expressions, blocks, functions and closures lie one in another, and the entry; or as many as a `usize` counts.
+-- For each script that fits and spells the stream, at least as many readers were active at once as its expressions,
+-- blocks, functions and closures are inside one another, with the entry point; or as many as a `usize` counts.
 abbrev pub NestsAsWritten : Context → Live → (before : Library) → (start : Cursor) → (after : Counts) → Type 0
 NestsAsWritten context live before start after =
-    (fs : Statements) → IsWritten (scripts context live) fs before start
-    → (2 ^ 64 - 1 ≤ after.peak) ⊎ (1 + statements_depth fs ≤ after.peak)
+    (f : Written (Script context live)) → IsWritten (written (Script context live)) f before start
+    → (2 ^ 64 - 1 ≤ after.peak) ⊎ (1 + depth production f.1 ≤ after.peak)

@@ -16,7 +16,7 @@ use Rattle.rhai_grammar.specs.Comments.{Comment}
 use Rattle.rhai_grammar.specs.Contexts.{Live}
 use Rattle.rhai_grammar.specs.declared.role.Closing.{Closing}
 use Rattle.rhai_grammar.specs.declared.role.Construct.{Construct}
-use Rattle.rhai_grammar.specs.declared.role.OperandPlace.{OperandPlace}
+use Rattle.rhai_grammar.specs.declared.role.OperandRole.{OperandRole}
 use Rattle.rhai_grammar.specs.Cursors.{Cursor, cursor_of, left}
 use Rattle.rhai_grammar.specs.Libraries.{Ended}
 use Rattle.rhai_grammar.specs.declared.key.FnKey.{FnKey}
@@ -53,8 +53,8 @@ expression engine frame settings = reading.Expression (context_of engine frame s
 abbrev pub operand : EngineValue → FrameValue → ParseSettings → Goal
 operand engine frame settings = reading.Operand (context_of engine frame settings) (live_of frame)
 
--- an operand at this place after an operator
-abbrev pub right_operand : EngineValue → FrameValue → ParseSettings → OperandPlace → Goal
+-- an operand of this role after an operator
+abbrev pub right_operand : EngineValue → FrameValue → ParseSettings → OperandRole → Goal
 right_operand engine frame settings place =
     reading.RightOperand (context_of engine frame settings) (live_of frame) place
 

@@ -5,7 +5,7 @@ use Rattle.rhai_lower.specs.Nodes.{Node}
 use Rattle.rhai_lower.specs.declared.position.Position.{Position}
 use Rattle.rhai_trees.specs.Chains.{chain_view}
 use Rattle.rhai_grammar.specs.Contexts.{Context, Live}
-use Rattle.rhai_grammar.specs.Starts.{place_after}
+use Rattle.rhai_grammar.specs.Starts.{role_after}
 use Rattle.rhai_reading.specs.Reading.{BinaryOp, Call, NextOperator, Peek, Prog, Ret, RightOperand, Take}
 use Rattle.rhai_reading.specs.Reading.{binary_on, raised}
 use Rattle.rhai_reading.specs.Running.{Progress, exec, guarded, result_of}
@@ -34,7 +34,7 @@ NextIs filter next s = (c : Context) (w : Live) (at : Position) (parent : ℕ) (
 -- is refused at a position.
 abbrev pub right_side : Context → Live → Position → Prog (Lexeme × Position × Node)
 right_side context live at =
-    Peek (λ op pos. Take (Call (RightOperand context live (place_after op)) (λ rhs.
+    Peek (λ op pos. Take (Call (RightOperand context live (role_after op)) (λ rhs.
     Call (NextOperator context.filter) (λ next. raised context at (λ deeper. Ret (op, pos, rhs))))))
 
 abbrev pub side_view : Side → Lexeme × Position × Node

@@ -12,12 +12,11 @@ use Rattle.rhai_lower.specs.declared.ast.ScriptFuncDef.{ScriptFuncDef}
 use Rattle.rhai_lower.specs.declared.ast.Stmt.{Stmt}
 use Rattle.rhai_grammar.specs.Cursors.{Cursor}
 use Rattle.rhai_grammar.specs.Contexts.{Context, Live}
-use Rattle.rhai_grammar.specs.Definitions.{after_statements}
-use Rattle.rhai_grammar.specs.Forms.{Statements}
 use Rattle.rhai_grammar.specs.Libraries.{Library}
-use Rattle.rhai_grammar.specs.Promises.{ReadsWhole, Returns, expressions, scripts}
-use Rattle.rhai_grammar.specs.Trees.{statement_trees, tree}
+use Rattle.rhai_grammar.specs.Promises.{Returns}
 use Rattle.rhai_grammar.specs.declared.error.ParseError.{ParseError}
+use Rattle.rhai_reading.specs.Reading.{Script, Whole}
+use Rattle.rhai_grammar.specs.Promises.{ReadsWhole}
 pub use Rattle.rhai_lower.specs.Optimizer.{Constants, Makes}
 use Rattle.rhai_lower.specs.declared.optimizer.OptimizationLevel.{OptimizationLevel}
 
@@ -45,15 +44,16 @@ abbrev pub IsScriptOf : Makes → Constants → OptimizationLevel → Node → L
 IsScriptOf makes constants level x library script =
     IsMadeOf makes constants level (one_statement (expression x) no_statements) library script
 
--- the statements of a script with the functions of a library, and the slots and imports that are left after it
-pub record IsScript (fs : Statements) (live : Live) (library : Library)
+-- The statements of a script with the functions of a library, and the slots and imports that are left after it, by the
+-- trees of a form and what is live after it.
+pub record IsScript (trees : node.Statements × Live) (library : Library)
     (script : Vec Stmt Global × Vec (Rc ScriptFuncDef Global) Global) (left : List SlotValue) (modules : List Text) :
     Type 0
   where
-    pub statements : statement_views script.0.items ≡ statement_trees fs live
+    pub statements : statement_views script.0.items ≡ trees.0
     pub functions : function_views script.1.items ≡ functions_in library
-    pub slots : left ≡ (after_statements fs live).slots
-    pub imports : modules ≡ (after_statements fs live).imports
+    pub slots : left ≡ trees.1.slots
+    pub imports : modules ≡ trees.1.imports
 
 -- the script of this tree with these functions, unless memory ran out
 abbrev pub Accepts : Makes → Constants → OptimizationLevel → Node → Library → Result AST ParseError → Type 0
@@ -63,8 +63,8 @@ Accepts makes constants level x library result = Returns (IsScriptOf makes const
 abbrev pub ReadsExpression : Makes → Context → Live → (before after : Library) → (start left : Cursor) → Constants
     → OptimizationLevel → Result AST ParseError → Type 0
 ReadsExpression makes context live before after start left constants level result =
-    ReadsWhole (expressions context live) (λ f script. IsScriptOf makes constants level (tree f live) after script)
-    before after start left result
+    ReadsWhole (Whole context live) (λ f script. IsScriptOf makes constants level f.0 after script) before after start
+    left result
 
 -- A stream that is a script gives its statements, the functions that there are after it, and the slots and imports that
 -- its statements leave.
@@ -72,12 +72,12 @@ abbrev pub ReadsScript : Context → Live → (before after : Library) → (star
     → Result (Vec Stmt Global × Vec (Rc ScriptFuncDef Global) Global) ParseError → (slots : List SlotValue)
     → (imports : List Text) → Type 0
 ReadsScript context live before after start left result slots imports =
-    ReadsWhole (scripts context live) (λ fs script. IsScript fs live after script slots imports) before after start
-    left result
+    ReadsWhole (Script context live) (λ f script. IsScript f.0 after script slots imports) before after start left
+    result
 
 -- A stream that is a script is what an optimizer makes of its statements, with the functions that there are after it.
 abbrev pub ReadsAst : Makes → Context → Live → (before after : Library) → (start left : Cursor) → Constants
     → OptimizationLevel → Result AST ParseError → Type 0
 ReadsAst makes context live before after start left constants level result =
-    ReadsWhole (scripts context live) (λ fs script. IsMadeOf makes constants level (statement_trees fs live) after
-    script) before after start left result
+    ReadsWhole (Script context live) (λ f script. IsMadeOf makes constants level f.0.0 after script) before after start
+    left result

@@ -1,4 +1,4 @@
--- The context of a whole form at an entry point. It does so in the state that the entry is given.
+-- The context of a whole form at an entry point. It follows from the state that the entry point is given.
 use Rattle.std.specs.Prelude.{◌≡◌, List, Vec, map}
 use Rattle.std.specs.Rc.{rc_str_bytes}
 use Rattle.std.specs.declared.alloc.Global.{Global}

@@ -2,7 +2,7 @@
 
 ghost use Rattle.rhai_lower.specs.View.{block_view};
 ghost use Rattle.rhai_parser.specs.Readers.{Covers, GoesOn, Reads, block};
-ghost use Rattle.rhai_parser.specs.Rooms.{Stays};
+ghost use Rattle.rhai_parser.specs.Heights.{Stays};
 
 use crate::lent::LentReaders;
 use crate::reader::Reader;

@@ -3,12 +3,12 @@
 ghost use Rattle.std.specs.Prelude.{◌≡◌, IfOk, false, option_map};
 ghost use Rattle.rhai_lower.specs.View.{view};
 ghost use Rattle.rhai_grammar.specs.Delivered.{is_end};
-ghost use Rattle.rhai_reading.specs.Running.{asked};
+ghost use Rattle.rhai_reading.specs.Running.{next_item};
 ghost use Rattle.rhai_parser.specs.Readers.{Covers, GoesOn, Reads, called, index, links, member, state_of};
 ghost use Rattle.rhai_trees.specs.Chains.{chain_view};
 ghost use Rattle.rhai_trees.specs.Linked.{is_linked};
 ghost use Rattle.rhai_parser.specs.ExprViews.{call_view, linked};
-ghost use Rattle.rhai_parser.specs.Rooms.{Stays};
+ghost use Rattle.rhai_parser.specs.Heights.{Stays};
 
 use crate::expr::asks::end_index;
 use crate::lent::LentReaders;
@@ -100,8 +100,8 @@ impl<R: LentReaders> Reader<'_, R> {
         }
     }
 
-    // The same, for operands that have links. These are few, and a function clears all the places that it has when it
-    // begins; so they are apart. A bracket raises the level, and its index once more; a dot raises that of all to its
+    // The same, for operands that have links. These are few, and a function clears all its locals when it begins;
+    // so they are apart. A bracket raises the level, and its index once more; a dot raises that of all to its
     // right.
     #[inline(never)]
     #[tactic(auto, using(crate::proofs::ExprReaders::parse_all_links))]
@@ -194,7 +194,7 @@ impl<R: LentReaders> Reader<'_, R> {
         frame: &Frame<'_>,
         settings: ParseSettings,
     ) -> ParseResult<Expr>
-        requires seen { is_end (asked (state_of shared.old)).lexeme ≡ false }
+        requires seen { is_end (next_item (state_of shared.old)).lexeme ≡ false }
         requires lent { Covers (R.lent self.now.readers) (member self.now.engine.now frame.now settings)
             shared.old }
         ensures goes_on { GoesOn shared.old shared.new }

@@ -6,7 +6,7 @@ ghost use Rattle.rhai_lower.specs.View.{block_view, statement_view, view};
 ghost use Rattle.rhai_grammar.specs.declared.role.Construct.TheVariants.{Do, For, Loop, Try, While};
 ghost use Rattle.rhai_parser.specs.Readers.{Covers, GoesOn, Reads, braced, branch, conditional, construct};
 ghost use Rattle.rhai_parser.specs.Readers.{guard, iterated};
-ghost use Rattle.rhai_parser.specs.Rooms.{Stays};
+ghost use Rattle.rhai_parser.specs.Heights.{Stays};
 
 use crate::construct::control::{catch_frame, end_guard, end_iterated, loop_frame};
 use crate::lent::LentReaders;

@@ -11,13 +11,13 @@ ghost use Rattle.rhai_grammar.specs.Beginnings.{beginning, is_sign};
 ghost use Rattle.rhai_grammar.specs.Cursors.{left};
 ghost use Rattle.rhai_grammar.specs.Delivered.{is_memory};
 ghost use Rattle.rhai_base.specs.OperandEnds.{ends_operand};
-ghost use Rattle.rhai_reading.specs.Running.{Done, Gives, Progress, asked, exec, guarded, looking, result_of};
+ghost use Rattle.rhai_reading.specs.Running.{Done, Gives, Progress, next_item, exec, guarded, after_peek, result_of};
 ghost use Rattle.rhai_parser.specs.Frames.{context_of, live_of};
 ghost use Rattle.rhai_parser.specs.Operands.{operand_ends};
 ghost use Rattle.rhai_parser.specs.Readers.{Covers, GoesOn, Reads, arguments, expression, items, links};
 ghost use Rattle.rhai_parser.specs.Readers.{operand, postfix};
 ghost use Rattle.rhai_parser.specs.Readers.{right_operand, state_of, views_of};
-ghost use Rattle.rhai_parser.specs.Rooms.{Stays};
+ghost use Rattle.rhai_parser.specs.Heights.{Stays};
 ghost use Rattle.rhai_trees.specs.Chains.{chain_view};
 
 use crate::expr::asks::{as_variable, end_operand, end_plain, ends_here, sign_operand};
@@ -33,7 +33,7 @@ use rhai_base::leaves::tokens::{excludes_use, is_no_argument, is_sign, is_value,
 use rhai_base::modules::test_path;
 use rhai_base::words::{is_qualified_name, make_call};
 use rhai_base::{Frame, ParseSettings};
-use rhai_grammar::{CommaList, OperandPlace, OperandStart, ParseResult};
+use rhai_grammar::{CommaList, OperandRole, OperandStart, ParseResult};
 use rhai_lower::Expr;
 use rhai_trees::{Chain, make_statement_value};
 
@@ -61,7 +61,7 @@ impl<R: LentReaders> Reader<'_, R> {
     }
 
     // The same, where the next token makes a name before it one that is called, or part of a path. These are apart,
-    // since a function clears all the places that it has when it begins. The module that the path begins at is tested
+    // since a function clears all its locals when it begins. The module that the path begins at is tested
     // after the arguments.
     #[inline(never)]
     #[tactic(auto, using(crate::proofs::ExprReaders::parse_postfix))]
@@ -170,7 +170,7 @@ impl<R: LentReaders> Reader<'_, R> {
         shared: &mut Shared<'_>,
         frame: &Frame<'_>,
         settings: ParseSettings,
-        place: OperandPlace,
+        place: OperandRole,
     ) -> ParseResult<Chain>
         requires lent { Covers (R.lent self.now.readers) (right_operand self.now.engine.now frame.now settings
             place) shared.old }
@@ -199,7 +199,7 @@ impl<R: LentReaders> Reader<'_, R> {
     }
 
     /// Reads a written operand with its signs and its call. A value is read here, and any other operand apart, since a
-    /// function clears all the places that it has when it begins.
+    /// function clears all its locals when it begins.
     #[inline(always)]
     #[tactic(auto, using(crate::proofs::ExprReaders::parse_unary))]
     fn parse_unary(
@@ -269,7 +269,7 @@ impl<R: LentReaders> Reader<'_, R> {
         frame: &Frame<'_>,
         settings: ParseSettings,
     ) -> ParseResult<Chain>
-        requires unsigned { is_sign (beginning (asked (state_of shared.old)).lexeme) ≡ false }
+        requires unsigned { is_sign (beginning (next_item (state_of shared.old)).lexeme) ≡ false }
         requires lent { Covers (R.lent self.now.readers) (operand self.now.engine.now frame.now settings)
             shared.old }
         ensures goes_on { GoesOn shared.old shared.new }
@@ -291,9 +291,9 @@ impl<R: LentReaders> Reader<'_, R> {
         settings: ParseSettings,
         operand: &Chain,
     )
-        requires looked { state_of shared.now ≡ looking (state_of shared.now) }
-        requires readable { is_memory (asked (state_of shared.now)).lexeme ≡ false }
-        requires ends { ends_operand (asked (state_of shared.now)).lexeme ≡ true }
+        requires looked { state_of shared.now ≡ after_peek (state_of shared.now) }
+        requires readable { is_memory (next_item (state_of shared.now)).lexeme ≡ false }
+        requires ends { ends_operand (next_item (state_of shared.now)).lexeme ≡ true }
         ensures reads { result_of (postfix self.now.engine.now frame.now settings (chain_view operand.now))
             (state_of shared.now) ≡ Done (chain_view operand.now) (state_of shared.now) }
     {}
@@ -307,9 +307,9 @@ impl<R: LentReaders> Reader<'_, R> {
         settings: ParseSettings,
         operand: &Chain,
     )
-        requires looked { state_of shared.now ≡ looking (state_of shared.now) }
-        requires readable { is_memory (asked (state_of shared.now)).lexeme ≡ false }
-        requires ends { ends_operand (asked (state_of shared.now)).lexeme ≡ true }
+        requires looked { state_of shared.now ≡ after_peek (state_of shared.now) }
+        requires readable { is_memory (next_item (state_of shared.now)).lexeme ≡ false }
+        requires ends { ends_operand (next_item (state_of shared.now)).lexeme ≡ true }
         ensures reads { result_of (links self.now.engine.now frame.now settings (chain_view operand.now))
             (state_of shared.now) ≡ Done [] (state_of shared.now) }
     {}

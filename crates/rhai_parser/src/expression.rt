@@ -16,7 +16,7 @@ ghost use Rattle.rhai_base.specs.Libraries.{Begins, Grows, library_of};
 ghost use Rattle.rhai_base.specs.States.{IsFresh};
 ghost use Rattle.rhai_base.specs.Counts.{counts_of};
 ghost use Rattle.rhai_parser.specs.Readers.{nesting_of};
-ghost use Rattle.rhai_parser.specs.Rooms.{Holds};
+ghost use Rattle.rhai_parser.specs.Heights.{Holds};
 ghost use Rattle.rhai_parser.specs.Frames.{context_of, live_of};
 ghost use Rattle.rhai_parser.specs.Starts.{KeepsOrder, live_in, starts_in};
 ghost use Rattle.rhai_parser.specs.Engines.{expr_settings};

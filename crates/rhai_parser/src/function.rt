@@ -13,25 +13,25 @@ ghost use Rattle.rhai_grammar.specs.Functions.{ended_function, names_function, p
 ghost use Rattle.rhai_grammar.specs.Keys.{is_closure, key_of};
 ghost use Rattle.rhai_grammar.specs.declared.role.StatementStart.TheVariants.{Comment};
 ghost use Rattle.rhai_base.specs.Comments.{comments_of};
-ghost use Rattle.rhai_base.specs.Frames.{SamePlace};
+ghost use Rattle.rhai_base.specs.Frames.{SameSurroundings};
 ghost use Rattle.rhai_parser.specs.Frames.{context_of, live_of};
 ghost use Rattle.rhai_parser.specs.Readers.{Covers, GoesOn, Reads, ended_view, function, function_statement};
 ghost use Rattle.rhai_parser.specs.Readers.{head_view, names_of, state_of, statement, with_live};
 ghost use Rattle.rhai_reading.specs.Reading.{Goal, fn_on, function_end, private_on, statement_at};
-ghost use Rattle.rhai_reading.specs.Running.{Caller, Gives, Progress, asked, exec, guarded};
-ghost use Rattle.rhai_parser.specs.Rooms.{Ends, Stays, function_room};
+ghost use Rattle.rhai_reading.specs.Running.{Caller, Gives, Progress, next_item, exec, guarded};
+ghost use Rattle.rhai_parser.specs.Heights.{Ends, Stays, function_height};
 
 use crate::function::head::{next_comments, next_parameter_list};
 use crate::lent::LentReaders;
 use crate::parameters::declare_parameters;
 use crate::reader::Reader;
 use crate::shared::Shared;
+use rhai_base::allowed::{test_comment, test_function};
 use rhai_base::comments::kept_comments;
 use rhai_base::cursor::{peek, skip};
 use rhai_base::leaves::due::match_token;
 use rhai_base::leaves::functions::{next_head, open_body};
 use rhai_base::leaves::statements::{take_text, what_starts};
-use rhai_base::places::{test_comment, test_function};
 use rhai_base::{Frame, ParseSettings};
 use rhai_grammar::{DueToken, FnKey, ParseError, ParseErrorType, ParseResult, StatementStart};
 use rhai_lower::{Position, ScriptFuncDef, Stmt, StmtBlock};
@@ -51,14 +51,14 @@ impl<R: LentReaders> Reader<'_, R> {
         frame: &Frame<'_>,
         settings: ParseSettings,
     ) -> ParseResult<Stmt>
-        requires more { is_end (asked (state_of shared.old)).lexeme ≡ false }
+        requires more { is_end (next_item (state_of shared.old)).lexeme ≡ false }
         requires lent { Covers (R.lent self.now.readers) (statement self.now.engine.now frame.now settings)
             shared.old }
         ensures goes_on { GoesOn shared.old shared.new }
         ensures shorter { OnOk result (left (state_of shared.new).cursor.tokens + 1
             ≤ left (state_of shared.old).cursor.tokens) }
         ensures stays { Stays self.now.engine.now frame.now settings
-            (1 + function_room self.now.engine.now settings) shared.old shared.new }
+            (1 + function_height self.now.engine.now settings) shared.old shared.new }
         ensures reads { (g : Goal) (s : Progress)
             → left (state_of shared.old).cursor.tokens ≤ left s.cursor.tokens
             → Gives (with_live statement_view frame.now) (exec (guarded g s) (statement_at
@@ -89,14 +89,14 @@ impl<R: LentReaders> Reader<'_, R> {
         settings: ParseSettings,
         comments: &[(RcStr, Position)],
     ) -> ParseResult<Stmt>
-        requires readable { is_memory (asked (state_of shared.old)).lexeme ≡ false }
-        requires more { is_end (asked (state_of shared.old)).lexeme ≡ false }
+        requires readable { is_memory (next_item (state_of shared.old)).lexeme ≡ false }
+        requires more { is_end (next_item (state_of shared.old)).lexeme ≡ false }
         requires lent { Covers (R.lent self.now.readers) (statement self.now.engine.now frame.now settings)
             shared.old }
         ensures goes_on { GoesOn shared.old shared.new }
         ensures shorter { left (state_of shared.new).cursor.tokens + 1 ≤ left (state_of shared.old).cursor.tokens }
         ensures stays { Stays self.now.engine.now frame.now settings
-            (1 + function_room self.now.engine.now settings) shared.old shared.new }
+            (1 + function_height self.now.engine.now settings) shared.old shared.new }
         ensures reads { (g : Goal) (s : Progress)
             → left (state_of shared.old).cursor.tokens ≤ left s.cursor.tokens
             → Gives (with_live statement_view frame.now) (exec (guarded g s) (fn_on
@@ -120,14 +120,14 @@ impl<R: LentReaders> Reader<'_, R> {
         settings: ParseSettings,
         comments: &[(RcStr, Position)],
     ) -> ParseResult<Stmt>
-        requires readable { is_memory (asked (state_of shared.old)).lexeme ≡ false }
-        requires more { is_end (asked (state_of shared.old)).lexeme ≡ false }
+        requires readable { is_memory (next_item (state_of shared.old)).lexeme ≡ false }
+        requires more { is_end (next_item (state_of shared.old)).lexeme ≡ false }
         requires lent { Covers (R.lent self.now.readers) (statement self.now.engine.now frame.now settings)
             shared.old }
         ensures goes_on { GoesOn shared.old shared.new }
         ensures shorter { left (state_of shared.new).cursor.tokens + 1 ≤ left (state_of shared.old).cursor.tokens }
         ensures stays { Stays self.now.engine.now frame.now settings
-            (1 + function_room self.now.engine.now settings) shared.old shared.new }
+            (1 + function_height self.now.engine.now settings) shared.old shared.new }
         ensures reads { (g : Goal) (s : Progress)
             → left (state_of shared.old).cursor.tokens ≤ left s.cursor.tokens
             → Gives (with_live statement_view frame.now) (exec (guarded g s) (private_on
@@ -161,7 +161,7 @@ impl<R: LentReaders> Reader<'_, R> {
             (comments_of comments.now) first private) shared.old }
         ensures goes_on { GoesOn shared.old shared.new }
         ensures stays { Stays self.now.engine.now frame.now settings
-            (function_room self.now.engine.now settings) shared.old shared.new }
+            (function_height self.now.engine.now settings) shared.old shared.new }
         ensures reads { Reads (function_statement self.now.engine.now frame.now settings
             (comments_of comments.now) first private) (with_live statement_view frame.now) shared.old result
             shared.new }

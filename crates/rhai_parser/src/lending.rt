@@ -3,13 +3,13 @@
 ghost use Rattle.std.specs.Prelude.{◌≡◌, ◌≤◌, ◌+◌, IfOk, true};
 ghost use Rattle.rhai_lower.specs.Nodes.{no_statements};
 ghost use Rattle.rhai_lower.specs.View.{statement_view, view};
-ghost use Rattle.rhai_base.specs.Frames.{SamePlace};
+ghost use Rattle.rhai_base.specs.Frames.{SameSurroundings};
 ghost use Rattle.rhai_grammar.specs.Cursors.{left};
 ghost use Rattle.rhai_grammar.specs.Statements.{ends_itself};
 ghost use Rattle.rhai_reading.specs.Running.{need};
 ghost use Rattle.rhai_parser.specs.Readers.{GoesOn, Nests, Reads, expression, state_of};
 ghost use Rattle.rhai_parser.specs.Readers.{statement, statements, statements_of, whole, with_live};
-ghost use Rattle.rhai_parser.specs.Rooms.{Stays, function_room};
+ghost use Rattle.rhai_parser.specs.Heights.{Stays, function_height};
 ghost use Rattle.rhai_trees.specs.Chains.{chain_view};
 
 use crate::engine::Engine;
@@ -48,8 +48,8 @@ where
         × ((result : _) (after : _) (after_frame : _)
         → S.post s.stmt engine shared frame settings result after after_frame
         → GoesOn shared.now after.now
-        × (Stays engine.now frame.now settings (2 + function_room engine.now settings) shared.now after.now
-        × (SamePlace frame.now after_frame.now
+        × (Stays engine.now frame.now settings (2 + function_height engine.now settings) shared.now after.now
+        × (SameSurroundings frame.now after_frame.now
         × (Nests (statement engine.now frame.now settings) (with_live statement_view after_frame.now) shared.now result
         after.now
         × IfOk result (λ s. ends_itself (statement_view s) ≡ true
@@ -122,8 +122,8 @@ fn parse_stmt(
 ) -> ParseResult<Stmt>
     ensures goes_on { GoesOn shared.old shared.new }
     ensures stays { Stays engine.now frame.old settings
-        (2 + function_room engine.now settings) shared.old shared.new }
-    ensures place { SamePlace frame.old frame.new }
+        (2 + function_height engine.now settings) shared.old shared.new }
+    ensures place { SameSurroundings frame.old frame.new }
     ensures reads { Nests (statement engine.now frame.old settings) (with_live statement_view frame.new) shared.old
         result shared.new }
     ensures takes { IfOk result (λ s. ends_itself (statement_view s) ≡ true
@@ -166,8 +166,8 @@ pub(crate) fn parse_statements(
 ) -> ParseResult<Vec<Stmt>>
     ensures goes_on { GoesOn shared.old shared.new }
     ensures stays { Stays engine.now frame.old settings
-        (2 + function_room engine.now settings) shared.old shared.new }
-    ensures place { SamePlace frame.old frame.new }
+        (2 + function_height engine.now settings) shared.old shared.new }
+    ensures place { SameSurroundings frame.old frame.new }
     ensures reads { Reads (statements engine.now frame.old settings closing no_statements)
         (with_live statements_of frame.new) shared.old result shared.new }
 {

@@ -3,11 +3,11 @@
 ghost use Rattle.std.specs.Prelude.{◌≡◌, ◌≤◌, ℕ, ◌+◌, IfOk, true};
 ghost use Rattle.rhai_lower.specs.View.{statement_view, view};
 ghost use Rattle.rhai_parser.specs.Readers.{GoesOn, Nests, expression, state_of, statement, with_live};
-ghost use Rattle.rhai_base.specs.Frames.{SamePlace};
+ghost use Rattle.rhai_base.specs.Frames.{SameSurroundings};
 ghost use Rattle.rhai_grammar.specs.Cursors.{left};
 ghost use Rattle.rhai_grammar.specs.Statements.{ends_itself};
 ghost use Rattle.rhai_reading.specs.Running.{need};
-ghost use Rattle.rhai_parser.specs.Rooms.{Stays, function_room};
+ghost use Rattle.rhai_parser.specs.Heights.{Stays, function_height};
 ghost use Rattle.rhai_trees.specs.Chains.{chain_view};
 
 use crate::engine::Engine;
@@ -59,8 +59,8 @@ pub trait LentReaders {
         requires covered { lent self.now (need (statement engine.now frame.old settings) (state_of shared.old)) }
         ensures goes_on { GoesOn shared.old shared.new }
         ensures stays { Stays engine.now frame.old settings
-            (2 + function_room engine.now settings) shared.old shared.new }
-        ensures place { SamePlace frame.old frame.new }
+            (2 + function_height engine.now settings) shared.old shared.new }
+        ensures place { SameSurroundings frame.old frame.new }
         ensures reads { Nests (statement engine.now frame.old settings) (with_live statement_view frame.new)
             shared.old result shared.new }
         ensures takes { IfOk result (λ s. ends_itself (statement_view s) ≡ true

@@ -6,10 +6,10 @@ ghost use Rattle.rhai_grammar.specs.Causes.{FnDuplicatedParam, MemoryIsNowhere, 
 ghost use Rattle.rhai_grammar.specs.Contexts.{nothing_live};
 ghost use Rattle.rhai_grammar.specs.Functions.{parameters_live};
 ghost use Rattle.rhai_grammar.specs.Imports.{is_among};
-ghost use Rattle.rhai_base.specs.Frames.{SamePlace};
+ghost use Rattle.rhai_base.specs.Frames.{SameSurroundings};
 ghost use Rattle.rhai_reading.specs.Reading.{Parameters};
 ghost use Rattle.rhai_parser.specs.Readers.{GoesOn, Reads, names_of};
-ghost use Rattle.rhai_parser.specs.Rooms.{Steady};
+ghost use Rattle.rhai_parser.specs.Heights.{Steady};
 
 use crate::shared::Shared;
 use rhai_base::Frame;
@@ -71,7 +71,7 @@ fn test_parameter(
 pub fn declare_parameters(frame: &mut Frame<'_>, names: &[RcStr]) -> Result<(), AllocError>
     requires { frame.old.live ≡ nothing_live }
     ensures ok { OnOk result (frame.new.live ≡ parameters_live (map rc_str_bytes names.now)) }
-    ensures place { SamePlace frame.old frame.new }
+    ensures place { SameSurroundings frame.old frame.new }
 {
     for name in names {
         frame.declare(name)?;

@@ -9,21 +9,21 @@ pub(crate) mod literals;
 ghost use Rattle.std.specs.Prelude.{◌≡◌, false};
 ghost use Rattle.rhai_grammar.specs.Beginnings.{beginning};
 ghost use Rattle.rhai_parser.specs.Readers.{state_of};
-ghost use Rattle.rhai_reading.specs.Running.{asked};
+ghost use Rattle.rhai_reading.specs.Running.{next_item};
 ghost use Rattle.rhai_parser.specs.PlainPrimaries.{is_plain};
 ghost use Rattle.rhai_parser.specs.Readers.{Covers, GoesOn, Reads, primary};
-ghost use Rattle.rhai_parser.specs.Rooms.{Stays};
+ghost use Rattle.rhai_parser.specs.Heights.{Stays};
 ghost use Rattle.rhai_trees.specs.Chains.{chain_view};
 
 use crate::lent::LentReaders;
 use crate::primary::asks::{take_value, used_name, used_word};
 use crate::reader::Reader;
 use crate::shared::Shared;
+use rhai_base::allowed::{may_be_closure, may_be_value};
 use rhai_base::cursor::{peek, skip};
 use rhai_base::leaves::due::match_token;
 use rhai_base::leaves::refusals::no_operand;
 use rhai_base::leaves::tokens::{excludes_use, is_called, what_begins};
-use rhai_base::places::{may_be_closure, may_be_value};
 use rhai_base::{Frame, ParseSettings};
 use rhai_grammar::{Beginning, DueToken, ParseResult};
 use rhai_lower::Expr;
@@ -78,7 +78,7 @@ impl<R: LentReaders> Reader<'_, R> {
     }
 
     // Reads an operand that is not one token. It is apart from the operands that are, since these are many, and each
-    // place that a function may use costs time whenever the function is called.
+    // local of a function costs time whenever the function is called.
     #[inline(never)]
     #[tactic(auto, using(crate::proofs::PrimaryReaders::parse_primary))]
     fn parse_compound(
@@ -87,7 +87,7 @@ impl<R: LentReaders> Reader<'_, R> {
         frame: &Frame<'_>,
         settings: ParseSettings,
     ) -> ParseResult<Chain>
-        requires compound { is_plain (beginning (asked (state_of shared.old)).lexeme) ≡ false }
+        requires compound { is_plain (beginning (next_item (state_of shared.old)).lexeme) ≡ false }
         requires lent { Covers (R.lent self.now.readers) (primary self.now.engine.now frame.now settings)
             shared.old }
         ensures goes_on { GoesOn shared.old shared.new }

@@ -21,7 +21,7 @@ ghost use Rattle.rhai_parser.specs.Nesting.{KeepsCounts, NestsAsWritten, StaysWi
 ghost use Rattle.rhai_parser.specs.Engines.{script_settings};
 ghost use Rattle.rhai_parser.specs.Frames.{context_of};
 ghost use Rattle.rhai_parser.specs.Readers.{nesting_of};
-ghost use Rattle.rhai_parser.specs.Rooms.{Holds};
+ghost use Rattle.rhai_parser.specs.Heights.{Holds};
 ghost use Rattle.rhai_parser.specs.Starts.{KeepsOrder, KeepsState, live_in, starts_in};
 
 use crate::engine::Engine;

@@ -6,7 +6,7 @@ ghost use Rattle.rhai_grammar.specs.Uses.{noted};
 ghost use Rattle.rhai_base.specs.Uses.{uses_of};
 ghost use Rattle.rhai_reading.specs.Running.{entering, leaving, with_captured};
 ghost use Rattle.rhai_parser.specs.Readers.{GoesOn, state_of};
-ghost use Rattle.rhai_parser.specs.Rooms.{Enters, Leaves, Steady};
+ghost use Rattle.rhai_parser.specs.Heights.{Enters, Leaves, Steady};
 
 use rhai_base::captured::add_use;
 use rhai_base::{Library, ParseCounts};
@@ -32,7 +32,7 @@ pub struct Shared<'s> {
 
 impl Shared<'_> {
     /// A reader begins.
-    #[tactic(auto, unfolding(crate::specs::Rooms::IsWithin, rhai_grammar::specs::Settings::one_more))]
+    #[tactic(auto, unfolding(crate::specs::Heights::IsWithin, rhai_grammar::specs::Settings::one_more))]
     pub fn enter(&mut self)
         ensures goes_on { GoesOn self.old self.new }
         ensures stays { Enters self.old self.new }
@@ -42,7 +42,7 @@ impl Shared<'_> {
     }
 
     /// It returns.
-    #[tactic(auto, unfolding(crate::specs::Rooms::IsWithin))]
+    #[tactic(auto, unfolding(crate::specs::Heights::IsWithin))]
     pub fn leave(&mut self)
         ensures goes_on { GoesOn self.old self.new }
         ensures stays { Leaves self.old self.new }

@@ -13,23 +13,23 @@ ghost use Rattle.rhai_grammar.specs.Cursors.{left};
 ghost use Rattle.rhai_grammar.specs.Statements.{ends_itself, statement_start};
 ghost use Rattle.rhai_parser.specs.Frames.{context_of};
 ghost use Rattle.rhai_parser.specs.RareStatements.{is_rare};
-ghost use Rattle.rhai_reading.specs.Running.{asked};
-ghost use Rattle.rhai_base.specs.Frames.{SamePlace};
+ghost use Rattle.rhai_reading.specs.Running.{next_item};
+ghost use Rattle.rhai_base.specs.Frames.{SameSurroundings};
 ghost use Rattle.rhai_parser.specs.Readers.{inside, jump, state_of, statements, statements_of, with_live};
 ghost use Rattle.rhai_trees.specs.Statements.{optional_view};
-ghost use Rattle.rhai_parser.specs.Rooms.{Stays, function_room};
+ghost use Rattle.rhai_parser.specs.Heights.{Stays, function_height};
 
 use crate::lent::LentReaders;
 use crate::reader::Reader;
 use crate::shared::Shared;
 use crate::stmt::asks::{end_assignment, next_var_name, starts_expression};
 use crate::stmt::definitions::{define_as, export_name};
+use rhai_base::allowed::{test_global, test_loop};
 use rhai_base::cursor::{peek, skip, take};
 use rhai_base::leaves::statements::{
     assigns, has_value, list_ends, next_alias, parse_var_name, statement_continues,
     what_is_exported, what_starts,
 };
-use rhai_base::places::{test_global, test_loop};
 use rhai_base::{Frame, ParseSettingFlags, ParseSettings};
 use rhai_grammar::{Closing, ParseResult, StatementStart};
 use rhai_lower::{Expr, Position, Stmt};
@@ -53,8 +53,8 @@ impl<R: LentReaders> Reader<'_, R> {
             closing no_statements) shared.old }
         ensures goes_on { GoesOn shared.old shared.new }
         ensures stays { Stays self.now.engine.now frame.old settings
-            (2 + function_room self.now.engine.now settings) shared.old shared.new }
-        ensures place { SamePlace frame.old frame.new }
+            (2 + function_height self.now.engine.now settings) shared.old shared.new }
+        ensures place { SameSurroundings frame.old frame.new }
         ensures reads { Reads (statements self.now.engine.now frame.old settings closing no_statements)
             (with_live statements_of frame.new) shared.old result shared.new }
     {
@@ -90,8 +90,8 @@ impl<R: LentReaders> Reader<'_, R> {
             shared.old }
         ensures goes_on { GoesOn shared.old shared.new }
         ensures stays { Stays self.now.engine.now frame.old settings
-            (1 + function_room self.now.engine.now settings) shared.old shared.new }
-        ensures place { SamePlace frame.old frame.new }
+            (1 + function_height self.now.engine.now settings) shared.old shared.new }
+        ensures place { SameSurroundings frame.old frame.new }
         ensures reads { Reads (statement self.now.engine.now frame.old settings)
             (with_live statement_view frame.new) shared.old
             result shared.new }
@@ -124,13 +124,13 @@ impl<R: LentReaders> Reader<'_, R> {
         settings: ParseSettings,
     ) -> ParseResult<Stmt>
         requires keyword { is_rare (statement_start (context_of self.now.engine.now frame.old settings)
-            (asked (state_of shared.old)).lexeme) ≡ true }
+            (next_item (state_of shared.old)).lexeme) ≡ true }
         requires lent { Covers (R.lent self.now.readers) (statement self.now.engine.now frame.old settings)
             shared.old }
         ensures goes_on { GoesOn shared.old shared.new }
         ensures stays { Stays self.now.engine.now frame.old settings
-            (1 + function_room self.now.engine.now settings) shared.old shared.new }
-        ensures place { SamePlace frame.old frame.new }
+            (1 + function_height self.now.engine.now settings) shared.old shared.new }
+        ensures place { SameSurroundings frame.old frame.new }
         ensures reads { Reads (statement self.now.engine.now frame.old settings)
             (with_live statement_view frame.new) shared.old
             result shared.new }
@@ -205,7 +205,7 @@ impl<R: LentReaders> Reader<'_, R> {
             shared.old }
         ensures goes_on { GoesOn shared.old shared.new }
         ensures stays { Stays self.now.engine.now frame.old settings 1 shared.old shared.new }
-        ensures place { SamePlace frame.old frame.new }
+        ensures place { SameSurroundings frame.old frame.new }
         ensures reads { Reads (imported self.now.engine.now frame.old settings) (with_live statement_view frame.new)
             shared.old
             result shared.new }
@@ -231,7 +231,7 @@ impl<R: LentReaders> Reader<'_, R> {
             shared.old }
         ensures goes_on { GoesOn shared.old shared.new }
         ensures stays { Stays self.now.engine.now frame.old settings 0 shared.old shared.new }
-        ensures place { SamePlace frame.old frame.new }
+        ensures place { SameSurroundings frame.old frame.new }
         ensures reads { Reads (exported self.now.engine.now frame.old settings) (with_live statement_view frame.new)
             shared.old
             result shared.new }
@@ -264,7 +264,7 @@ impl<R: LentReaders> Reader<'_, R> {
             constant exported) shared.old }
         ensures goes_on { GoesOn shared.old shared.new }
         ensures stays { Stays self.now.engine.now frame.old settings 1 shared.old shared.new }
-        ensures place { SamePlace frame.old frame.new }
+        ensures place { SameSurroundings frame.old frame.new }
         ensures reads { Reads (definition self.now.engine.now frame.old settings constant exported)
             (with_live statement_view frame.new) shared.old result shared.new }
     {

@@ -13,7 +13,7 @@ ghost use Rattle.rhai_parser.specs.Readers.{construct};
 ghost use Rattle.rhai_parser.specs.Readers.{default_arm, state_of};
 ghost use Rattle.rhai_parser.specs.Switches.{CaseFrame, action_view, arm_view, cases_view};
 ghost use Rattle.rhai_trees.specs.Arms.{arms_view};
-ghost use Rattle.rhai_parser.specs.Rooms.{Stays};
+ghost use Rattle.rhai_parser.specs.Heights.{Stays};
 
 use crate::lent::LentReaders;
 use crate::reader::Reader;

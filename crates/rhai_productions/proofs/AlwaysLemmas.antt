@@ -1,10 +1,10 @@
 -- What is shown of all that a production can give holds of the tree of each form.
 use Rattle.rhai_reading.specs.Reading.{Goal, Val}
-use Rattle.rhai_productions.specs.Schema.{Production, View, Seen, view}
-use Rattle.rhai_productions.specs.Schema as S
-use Rattle.rhai_productions.specs.Derived as F
-use Rattle.rhai_productions.specs.Derived.{given, take, this, if_so, if_not, choose, here, must, knows, adds, uses}
-use Rattle.rhai_productions.specs.Derived.{captures, part, literal, apart, in_text, form}
+use Rattle.rhai_grammar.specs.Productions.{Production, View, Seen, view}
+use Rattle.rhai_grammar.specs.Productions as S
+use Rattle.rhai_grammar.specs.Forms as F
+use Rattle.rhai_grammar.specs.Forms.{given, take, this, if_so, if_not, choose, here, must, knows, adds, uses}
+use Rattle.rhai_grammar.specs.Forms.{captures, part, literal, apart, in_text, form}
 use Rattle.rhai_productions.specs.Always.{Always}
 
 module _ (Right : (g : Goal) → Val g → Type 0) where

@@ -8,23 +8,22 @@ use Rattle.rhai_lower.specs.declared.token.Token.{Token}
 use Rattle.rhai_lower.specs.declared.token.Token.TheVariants as token
 use Rattle.rhai_grammar.specs.Prelude.{Context, Live, Node, Text, Point, Position, Item, item, code, next_at, past}
 use Rattle.rhai_grammar.specs.Prelude.{Taken}
-use Rattle.rhai_grammar.specs.Prelude.{beginning, value_of, level_up, has_room, is_memory, is_variable, module_fault}
+use Rattle.rhai_grammar.specs.Prelude.{beginning, value_of, level_up, may_raise, is_memory, is_variable, module_fault}
 use Rattle.rhai_grammar.specs.Prelude.{Tokens, linking, follower_of, Other, spot_after_operand, qualifies, calls}
 use Rattle.rhai_grammar.specs.Prelude.{Nothing}
 use Rattle.rhai_grammar.specs.Delivered as M
 use Rattle.rhai_grammar.specs.Signs.{sign_holds, signed as signed_tree}
-use Rattle.rhai_grammar.specs.StartLaws.{is_added}
+use Rattle.rhai_productions.specs.StartLaws.{is_added, IsBegun}
 use Rattle.rhai_grammar.specs.declared.filter.ExprFilter.{ExprFilter}
 use Rattle.rhai_grammar.specs.declared.role.Beginning.{Beginning}
 use Rattle.rhai_grammar.specs.declared.role.Beginning.TheVariants as begin
 use Rattle.rhai_grammar.specs.declared.role.Linking.TheVariants as link
 use Rattle.rhai_grammar.specs.declared.role.OperandStart.TheVariants as first
-use Rattle.rhai_grammar.specs.Prelude.{Operator, operand_start, place_after, boolean_holds, operator_tree}
+use Rattle.rhai_grammar.specs.Prelude.{Operator, operand_start, role_after, boolean_holds, operator_tree}
 use Rattle.rhai_reading.specs.Reading as R
-use Rattle.rhai_productions.specs.Rules as P
-use Rattle.rhai_productions.specs.Rules.{production}
-use Rattle.rhai_productions.specs.Schema.{fault_free}
-use Rattle.rhai_productions.specs.StartLaws.{IsBegun}
+use Rattle.rhai_grammar.specs.Rules as P
+use Rattle.rhai_grammar.specs.Rules.{production}
+use Rattle.rhai_grammar.specs.Productions.{fault_free}
 use Rattle.rhai_productions.proofs.Fits as F
 use Rattle.rhai_productions.proofs.Fits.{Comes, Fit, FitIn, formed, given}
 
@@ -114,7 +113,7 @@ operand_of c w x v {s = s} {u = u} n b other f plain e =
         (F.must (no_module c w x plain) given)))
 
 pub expression_of : (c : Context) (w : Live) (x : Node) {l : Lexeme} {s u : Point} → Comes l here s
-    → has_room c ≡ true → Fit (R.Operand (level_up c) w) x s u → Ends c.filter u → Fit (R.Expression c w) x s u
+    → may_raise c ≡ true → Fit (R.Operand (level_up c) w) x s u → Ends c.filter u → Fit (R.Expression c w) x s u
 expression_of c w x n room f e =
     formed (F.looks n (F.must room (F.part f (F.part (operator_end (level_up c) w _ 1 x e) given))))
 
@@ -131,7 +130,7 @@ pub value_operand : (c : Context) (w : Live) {l : Lexeme} {s : Point} → Comes 
 value_operand c w {l = l} n b plain e =
     operand_of c w (value_of l here) begin.Value n b refl (value_of_token c w n b) plain e
 
-pub value_expression : (c : Context) (w : Live) {l : Lexeme} {s : Point} → Comes l here s → has_room c ≡ true
+pub value_expression : (c : Context) (w : Live) {l : Lexeme} {s : Point} → Comes l here s → may_raise c ≡ true
     → beginning l ≡ begin.Value → is_variable (value_of l here) ≡ false → Ends c.filter (past code s)
     → Fit (R.Expression c w) (value_of l here) s (past code s)
 value_expression c w {l = l} n room b plain e =
@@ -219,7 +218,7 @@ signed c w t b holds =
 -- a range from an omitted zero to an omitted unit
 pub range : (c : Context) (w : Live) (t : Token) → beginning (Sign t) ≡ begin.Range → linking (Sign t) ≡ link.Nothing
     → follower_of c.filter (Sign t) ≡ Operator 140 false
-    → operand_start (place_after (Sign t)) (Sign token.RightParen) ≡ first.Omitted
+    → operand_start (role_after (Sign t)) (Sign token.RightParen) ≡ first.Omitted
     → boolean_holds (Sign t) (node.integer (pos 0) here) ≡ true → boolean_holds (Sign t) (node.unit here) ≡ true
     → Starts (unlimited c) w (Sign t)
 range c w t b l f omitted left right =
@@ -238,8 +237,8 @@ range c w t b l f omitted left right =
     let operator : Fit (R.NextOperator c.filter) op s s =
     formed (F.chooses n (subst (λ v. FitIn (R.NextOperator c.filter)
     (P.follower_by v) op s s) (sym f) given)) in
-    let side : Fit (R.RightOperand (inner c) w (place_after (Sign t))) unit u u = formed (F.chooses close
-    (subst (λ v. FitIn (R.RightOperand (inner c) w (place_after (Sign t))) (P.right_by (inner c) w v) unit u u)
+    let side : Fit (R.RightOperand (inner c) w (role_after (Sign t))) unit u u = formed (F.chooses close
+    (subst (λ v. FitIn (R.RightOperand (inner c) w (role_after (Sign t))) (P.right_by (inner c) w v) unit u u)
     (sym omitted) (F.looks close given))) in
     let run : Fit (R.BinaryOp (inner c) w here 1 zero) (operator_tree (Sign t) here zero unit) s u =
     formed (F.part operator

@@ -6,19 +6,18 @@ use Rattle.rhai_lower.specs.Nodes as node
 use Rattle.rhai_lower.specs.declared.token.Token.{Token}
 use Rattle.rhai_lower.specs.declared.token.Token.TheVariants as token
 use Rattle.rhai_grammar.specs.Prelude.{Context, Live, Text, Point, code, past, Taken}
-use Rattle.rhai_grammar.specs.Prelude.{beginning, value_of, level_up, has_room}
+use Rattle.rhai_grammar.specs.Prelude.{beginning, value_of, level_up, may_raise}
 use Rattle.rhai_grammar.specs.Prelude.{may_be_closure, may_begin}
 use Rattle.rhai_grammar.specs.Prelude.{has_single_blocks, may_be_value, made_block, starts}
-use Rattle.rhai_grammar.specs.StartLaws.{is_added}
+use Rattle.rhai_productions.specs.StartLaws.{is_added, StartsOfExpressions}
 use Rattle.rhai_grammar.specs.declared.role.Beginning.TheVariants as begin
 use Rattle.rhai_grammar.specs.declared.role.Construct.{Construct as Kind}
 use Rattle.rhai_grammar.specs.declared.role.Construct.TheVariants as kind
 use Rattle.rhai_grammar.specs.declared.role.Bars.TheVariants as bars
 use Rattle.rhai_grammar.specs.Prelude.{loop_body}
 use Rattle.rhai_reading.specs.Reading as R
-use Rattle.rhai_productions.specs.Rules as P
-use Rattle.rhai_productions.specs.Rules.{production}
-use Rattle.rhai_productions.specs.StartLaws.{StartsOfExpressions}
+use Rattle.rhai_grammar.specs.Rules as P
+use Rattle.rhai_grammar.specs.Rules.{production}
 use Rattle.rhai_productions.proofs.StartLemmas.{begins_so}
 use Rattle.rhai_productions.proofs.Fits as F
 use Rattle.rhai_productions.proofs.Fits.{Comes, Fit, FitIn, formed, given}
@@ -44,7 +43,7 @@ abbrev with_block : Bool → List Lexeme → List Lexeme
 with_block true ls = one ∷ Sign token.RightBrace ∷ ls
 with_block false ls = Sign token.RightBrace ∷ ls
 
-inside : (c : Context) (w : Live) (b : Bool) → has_single_blocks c ≡ b → has_room c ≡ true → (ls : List Lexeme)
+inside : (c : Context) (w : Live) (b : Bool) → has_single_blocks c ≡ b → may_raise c ≡ true → (ls : List Lexeme)
     (ts : List Taken)
     → Fit (R.Inside c w) (inside_tree b) (pt (with_block b ls) ts) (pt (Sign token.RightBrace ∷ ls) (taken_in b ts))
 inside c w true e room ls ts =
@@ -58,7 +57,7 @@ inside c w false e room ls ts =
     (pt (Sign token.RightBrace ∷ ls) ts)) (sym e)
     (F.part (formed (F.chooses (sign token.RightBrace refl) given)) given))
 
-block : (c : Context) (w : Live) (b : Bool) → has_single_blocks c ≡ b → has_room c ≡ true → (ls : List Lexeme)
+block : (c : Context) (w : Live) (b : Bool) → has_single_blocks c ≡ b → may_raise c ≡ true → (ls : List Lexeme)
     (ts : List Taken)
     → Fit (R.Block c w here) (node.braces (inside_tree b) here here) (pt (with_block b ls) ts)
     (pt ls (tk (Sign token.RightBrace) (taken_in b ts)))
@@ -66,8 +65,8 @@ block c w b e room ls ts =
     formed (F.part (inside c w b e room ls ts) (F.part
     (formed (F.takes (sign token.RightBrace refl) refl given)) given))
 
-braced : (c : Context) (w : Live) (b : Bool) → has_single_blocks c ≡ b → has_room c ≡ true
-    → has_room (level_up c) ≡ true
+braced : (c : Context) (w : Live) (b : Bool) → has_single_blocks c ≡ b → may_raise c ≡ true
+    → may_raise (level_up c) ≡ true
     → (ls : List Lexeme) (ts : List Taken)
     → Fit (R.Braced c w here) (node.braces (inside_tree b) here here)
     (pt (Sign token.LeftBrace ∷ with_block b ls) ts)
@@ -94,14 +93,14 @@ construct c w t k f {s = s} {u = u} n b may x e =
 abbrev deep : Context → Context
 deep c = level_up (level_up (inner c))
 
-guard : (c : Context) (w : Live) {s : Point} → has_room c ≡ true → Comes (Sign token.True) here s
+guard : (c : Context) (w : Live) {s : Point} → may_raise c ≡ true → Comes (Sign token.True) here s
     → Ends c.filter (past code s) → Comes (Sign token.LeftBrace) here (past code s)
     → Fit (R.Guard c w) (node.boolean true here) s (past code s)
 guard c w room n e brace =
     formed (F.if_not n refl (F.part (value_expression c w n room refl refl e)
     (F.must refl (F.if_not brace refl given))))
 
-guard_last : (c : Context) (w : Live) {s : Point} → has_room c ≡ true → Comes (Sign token.True) here s
+guard_last : (c : Context) (w : Live) {s : Point} → may_raise c ≡ true → Comes (Sign token.True) here s
     → Ends c.filter (past code s) → Comes (Sign token.EOF) here (past code s)
     → Fit (R.Guard c w) (node.boolean true here) s (past code s)
 guard_last c w room n e end =

@@ -4,7 +4,7 @@ use Rattle.std.proofs.Common.{if◌then◌else◌}
 use Rattle.rhai_lower.specs.Nodes.{dot, index}
 use Rattle.rhai_grammar.specs.Prelude.{Bracket, Chain, Dotted, Link, LinkKind, chain_of, chained, is_last, link_node}
 use Rattle.rhai_grammar.specs.Prelude.{nest, node_shape, Lexeme, Position, Context, Live, Node, is_name, LinkSpot}
-use Rattle.rhai_grammar.specs.Prelude.{spot_after_operand, MemberPlace, AMember, NoMember, bracket_link, member_link}
+use Rattle.rhai_grammar.specs.Prelude.{spot_after_operand, MemberRole, AMember, NoMember, bracket_link, member_link}
 use Rattle.rhai_grammar.specs.Prelude.{beginning, item}
 use Rattle.rhai_grammar.specs.declared.role.Linking.TheVariants as lk
 use Rattle.rhai_grammar.specs.declared.role.Beginning.TheVariants as begin
@@ -13,10 +13,10 @@ use Rattle.rhai_grammar.specs.declared.role.Linking.{Linking}
 use Rattle.rhai_grammar.proofs.ShapeSteps.{link_shapes, chains}
 use Rattle.rhai_reading.specs.Reading as R
 use Rattle.rhai_reading.specs.Reading.{Goal, Val}
-use Rattle.rhai_productions.specs.Schema.{Production}
-use Rattle.rhai_productions.specs.Rules as P
-use Rattle.rhai_productions.specs.Rules.{production}
-use Rattle.rhai_productions.specs.Derived as F
+use Rattle.rhai_grammar.specs.Productions.{Production}
+use Rattle.rhai_grammar.specs.Rules as P
+use Rattle.rhai_grammar.specs.Rules.{production}
+use Rattle.rhai_grammar.specs.Forms as F
 use Rattle.rhai_productions.specs.Always.{Always}
 use Rattle.rhai_productions.specs.ChainForms.{ChainBy, IsChain, IsOneChain, GroupBy, IsGroup, GroupedBy, IsGroupedChain}
 use Rattle.rhai_productions.specs.ChainForms.{ChainsAreJoined}
@@ -120,7 +120,7 @@ by_either : {A : Type 0} (R : A → Type 0) (b : Bool) (p q : Production A) → 
 by_either R true p q g h = g
 by_either R false p q g h = h
 
-dotted : (w : Live) (spot : LinkSpot) (l : Lexeme) (at : Position) (v : MemberPlace)
+dotted : (w : Live) (spot : LinkSpot) (l : Lexeme) (at : Position) (v : MemberRole)
     → Always Right (λ ls. MayEnd spot.before → MayEnd ls) (P.dotted_by w spot l at v)
 dotted w spot l at AMember = λ x h ls k before. k (link_added spot.before (member_link l at x) before (λ e. h))
 dotted w spot l at (NoMember why) = tt

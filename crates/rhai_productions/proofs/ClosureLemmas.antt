@@ -13,7 +13,7 @@ use Rattle.rhai_grammar.specs.Prelude.{Live, Point, capturing, with_captured, Me
 use Rattle.rhai_grammar.specs.Prelude.{Library, is_function, keys_in, with_ended, is_captured, number, Use, names_of}
 use Rattle.rhai_grammar.specs.Prelude.{noted, closure_name, closure_node, ended_closure, made_block, apart, Refusal}
 use Rattle.rhai_lower.specs.Nodes.{Block}
-use Rattle.rhai_grammar.specs.ClosureLaws.{AreDistinct, Hands, names_in, pointer_to}
+use Rattle.rhai_productions.specs.ClosureLaws.{AreDistinct, Hands, names_in, pointer_to, CapturedAreUsed, ParametersAreCaptured}
 use Rattle.rhai_grammar.specs.Keys.{has_name}
 use Rattle.rhai_grammar.specs.Settings as S
 use Rattle.rhai_grammar.specs.Uses.{with_use}
@@ -21,15 +21,14 @@ use Rattle.rhai_grammar.specs.declared.role.Bars.{Bars}
 use Rattle.rhai_grammar.specs.declared.role.Bars.TheVariants as bars
 use Rattle.rhai_grammar.proofs.SlotLemmas.{same}
 use Rattle.rhai_reading.specs.Reading.{Closure, Goal, Val}
-use Rattle.rhai_productions.specs.Rules.{production}
-use Rattle.rhai_productions.specs.Rules as P
-use Rattle.rhai_productions.specs.Schema.{Production, adds, give, knows}
-use Rattle.rhai_productions.specs.Derived as D
-use Rattle.rhai_productions.specs.Events as F
-use Rattle.rhai_productions.specs.Events.{Event, ended_in, ends_only}
+use Rattle.rhai_grammar.specs.Rules.{production}
+use Rattle.rhai_grammar.specs.Rules as P
+use Rattle.rhai_grammar.specs.Productions.{Production, adds, give, knows}
+use Rattle.rhai_grammar.specs.Forms as D
+use Rattle.rhai_grammar.specs.Events as F
+use Rattle.rhai_grammar.specs.Events.{Event, ended_in, ends_only}
 use Rattle.rhai_productions.specs.Numbered as Z
 use Rattle.rhai_productions.specs.Numbered.{ClosureParts, closure_parts}
-use Rattle.rhai_productions.specs.ClosureLaws.{CapturedAreUsed, ParametersAreCaptured}
 use Rattle.rhai_productions.proofs.Passing.{leaves_its, passes}
 use Rattle.rhai_productions.proofs.Refusals.{ended_on}
 

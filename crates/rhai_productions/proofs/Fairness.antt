@@ -8,12 +8,12 @@ use Rattle.rhai_grammar.specs.Laws.{IsFair, is_refused}
 use Rattle.rhai_grammar.specs.Verdicts.{anything}
 use Rattle.rhai_grammar.proofs.FairDemands.{met_or_missed}
 use Rattle.rhai_reading.specs.Reading.{Goal, Val}
-use Rattle.rhai_productions.specs.Schema.{Production}
-use Rattle.rhai_productions.specs.Rules.{production}
-use Rattle.rhai_productions.specs.Derived as F
-use Rattle.rhai_productions.specs.Derived.{given, take, this, if_so, if_not, choose, here, must, knows, adds, uses}
-use Rattle.rhai_productions.specs.Derived.{captures, part, literal, apart, in_text, form}
-use Rattle.rhai_productions.specs.Promised.{written}
+use Rattle.rhai_grammar.specs.Productions.{Production}
+use Rattle.rhai_grammar.specs.Rules.{production}
+use Rattle.rhai_grammar.specs.Forms as F
+use Rattle.rhai_grammar.specs.Forms.{given, take, this, if_so, if_not, choose, here, must, knows, adds, uses}
+use Rattle.rhai_grammar.specs.Forms.{captures, part, literal, apart, in_text, form}
+use Rattle.rhai_grammar.specs.Promises.{written}
 use Rattle.rhai_productions.specs.StreamLaws.{FormsAreFair}
 
 unrefused : (b : Bool) → is_refused (if b then Otherwise else Otherwise) ≡ false

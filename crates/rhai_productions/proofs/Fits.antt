@@ -10,10 +10,10 @@ use Rattle.rhai_grammar.specs.Prelude.{with_captured}
 use Rattle.rhai_grammar.specs.Delivered as M
 use Rattle.rhai_grammar.specs.declared.due.DueToken.TheVariants.{RightBrace}
 use Rattle.rhai_reading.specs.Reading.{Goal, Val}
-use Rattle.rhai_productions.specs.Rules.{production}
-use Rattle.rhai_productions.specs.Schema.{Production, View, Seen, view}
-use Rattle.rhai_productions.specs.Schema as S
-use Rattle.rhai_productions.specs.Derived as D
+use Rattle.rhai_grammar.specs.Rules.{production}
+use Rattle.rhai_grammar.specs.Productions.{Production, View, Seen, view}
+use Rattle.rhai_grammar.specs.Productions as S
+use Rattle.rhai_grammar.specs.Forms as D
 
 -- what is filled in from one point to another; whatever is demanded after it is so from there on
 pub record FitIn (h : Goal) (p : Production (Val h)) (x : Val h) (s u : Point) : Type 0 where

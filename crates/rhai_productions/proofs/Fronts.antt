@@ -1,10 +1,10 @@
 -- What is met after a form; and the form is met before whatever else is met after it.
 use Rattle.rhai_grammar.specs.Prelude.{Demands, Met, Point, past, next_at, adding, capturing, with_captured, code, text}
 use Rattle.rhai_reading.specs.Reading.{Goal, Val}
-use Rattle.rhai_productions.specs.Schema.{Production}
-use Rattle.rhai_productions.specs.Derived as F
-use Rattle.rhai_productions.specs.Derived.{given, take, this, if_so, if_not, choose, here, must, knows, adds, uses}
-use Rattle.rhai_productions.specs.Derived.{captures, part, literal, apart, in_text, form}
+use Rattle.rhai_grammar.specs.Productions.{Production}
+use Rattle.rhai_grammar.specs.Forms as F
+use Rattle.rhai_grammar.specs.Forms.{given, take, this, if_so, if_not, choose, here, must, knows, adds, uses}
+use Rattle.rhai_grammar.specs.Forms.{captures, part, literal, apart, in_text, form}
 
 pub record Front (D : Demands → Demands) (j : Demands) (s t : Point) : Type 0 where
   pub end : Point

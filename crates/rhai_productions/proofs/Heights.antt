@@ -1,9 +1,9 @@
 -- How high a form is, a measure for recursion over parts of forms.
 use Rattle.std.specs.Prelude.{ℕ, ◌+◌}
 use Rattle.rhai_reading.specs.Reading.{Goal, Val}
-use Rattle.rhai_productions.specs.Schema.{Production}
-use Rattle.rhai_productions.specs.Derived.{Form, Filled, given, take, this, if_so, if_not, choose, here, must, knows}
-use Rattle.rhai_productions.specs.Derived.{adds, uses, captures, part, literal, apart, in_text, form}
+use Rattle.rhai_grammar.specs.Productions.{Production}
+use Rattle.rhai_grammar.specs.Forms.{Form, Filled, given, take, this, if_so, if_not, choose, here, must, knows}
+use Rattle.rhai_grammar.specs.Forms.{adds, uses, captures, part, literal, apart, in_text, form}
 
 module _ (rule : (g : Goal) → Production (Val g)) where
   abbrev mutual

@@ -5,13 +5,13 @@ use Rattle.rhai_grammar.specs.Prelude.{with_ended, past, next_at, adding, captur
 use Rattle.rhai_grammar.specs.Delivered as M
 use Rattle.rhai_reading.specs.Reading.{Goal, Val}
 use Rattle.rhai_reading.proofs.Looks.{op_at, fine, no_other, or_wrong}
-use Rattle.rhai_productions.specs.Schema.{Production, view}
-use Rattle.rhai_productions.specs.Schema as S
-use Rattle.rhai_productions.specs.Derived as F
-use Rattle.rhai_productions.specs.Derived.{given, take, this, if_so, if_not, choose, here, must, knows, adds, uses}
-use Rattle.rhai_productions.specs.Derived.{captures, part, literal, apart, in_text, form}
+use Rattle.rhai_grammar.specs.Productions.{Production, view}
+use Rattle.rhai_grammar.specs.Productions as S
+use Rattle.rhai_grammar.specs.Forms as F
+use Rattle.rhai_grammar.specs.Forms.{given, take, this, if_so, if_not, choose, here, must, knows, adds, uses}
+use Rattle.rhai_grammar.specs.Forms.{captures, part, literal, apart, in_text, form}
 use Rattle.rhai_productions.specs.Kept.{Keeps}
-use Rattle.rhai_productions.proofs.DerivedComplete.{or_other}
+use Rattle.rhai_productions.proofs.Complete.{or_other}
 
 module _ (rule : (g : Goal) → Production (Val g)) (Right : (g : Goal) → Val g → (first next : Lexeme) → Type 0)
     (Good : Ended → Type 0)

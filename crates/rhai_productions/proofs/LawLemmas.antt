@@ -10,19 +10,18 @@ use Rattle.rhai_reading.specs.Histories.{State, Outcome}
 use Rattle.rhai_reading.specs.Reading.{Goal, Val, Whole, Script}
 use Rattle.rhai_reading.proofs.Entries.{Entry, runs_once}
 use Rattle.rhai_reading.proofs.Joins.{cursor}
-use Rattle.rhai_reading.proofs.Main as M
 use Rattle.rhai_reading.proofs.Reaches.{reached_end}
 use Rattle.rhai_reading.proofs.Rules.{at}
 use Rattle.rhai_reading.proofs.Shows as S
 use Rattle.rhai_productions.specs.Agreement.{histories, runs}
-use Rattle.rhai_productions.specs.Laws.{EntriesArePromised, FormsAgree, FormsAreComplete, FormsAreSound}
+use Rattle.rhai_productions.specs.Laws.{EntriesArePromised, FormsAreComplete, FormsAreSound}
 use Rattle.rhai_productions.specs.Laws.{FormsHaveOneTree, FormsNestReaders, IsPromised, ProductionsAreRead}
-use Rattle.rhai_productions.specs.Promised.{Written, written, tree_of, Unwritten, unwritten}
-use Rattle.rhai_productions.specs.Rules.{production}
-use Rattle.rhai_productions.proofs.DerivedComplete.{complete}
-use Rattle.rhai_productions.proofs.DerivedDepth.{nests}
-use Rattle.rhai_productions.proofs.DerivedMain.{expression_entry, script_entry, reads_done, reads_fails}
-use Rattle.rhai_productions.proofs.DerivedMain.{sound_goal}
+use Rattle.rhai_grammar.specs.Promises.{Written, written, tree_of, Unwritten, unwritten}
+use Rattle.rhai_grammar.specs.Rules.{production}
+use Rattle.rhai_productions.proofs.Complete.{complete}
+use Rattle.rhai_productions.proofs.Depth.{nests}
+use Rattle.rhai_productions.proofs.Main.{expression_entry, script_entry, reads_done, reads_fails}
+use Rattle.rhai_productions.proofs.Main.{sound_goal}
 use Rattle.rhai_productions.proofs.Lawful.{lawful, runs_lawful}
 use Rattle.rhai_productions.proofs.Same.{equally, same}
 
@@ -55,26 +54,6 @@ forms_have_one_tree g f h s t u met also =
     let same = runs_once a.1 b.1 in
     let end : at t a.0 ≡ at u b.0 = cc in
     (cc, ap (λ (v : State). v.point) end)
-
--- ---- forms of both kinds
-
--- where a form of one kind is met, one of the other is so, if both are read for one goal
-across : {F G O P : Type 0} {g : Goal} {whole : F → Demands} {other : G → Demands} {stopping : O → Demands}
-    {ending : P → Demands} {here : F → Val g} {there : G → Val g} → Entry g whole stopping here
-    → Entry g other ending there → (f : F) (s t : Point) → Met (whole f) s t
-    → (h : G) × (there h ≡ here f) × Met (other h) s t
-across A B f s t met =
-    let c = A.complete f s t false met in
-    let r = subst (S.Ensures _ _) (c.1.same c.1.depth (omega arith)) (B.sound (suc c.1.depth) s false) in
-    r.1
-
-pub forms_agree : FormsAgree
-forms_agree = record {
-  expression = λ c w. across (M.expression_entry c w) (expression_entry c w);
-  expression_back = λ c w. across (expression_entry c w) (M.expression_entry c w);
-  script = λ c w. across (M.script_entry c w) (script_entry c w);
-  script_back = λ c w. across (script_entry c w) (M.script_entry c w);
-}
 
 -- ---- nesting, and the promise
 

@@ -7,12 +7,12 @@ use Rattle.rhai_grammar.specs.Causes.{Cause, is_memory_cause, refusal}
 use Rattle.rhai_grammar.specs.Contexts.{Live}
 use Rattle.rhai_grammar.specs.Libraries.{Library}
 use Rattle.rhai_grammar.specs.Delivered.{Ends}
-use Rattle.rhai_grammar.specs.Rows.{unread}
 use Rattle.rhai_reading.specs.Histories.{State, Done, Refused, calls}
 use Rattle.rhai_reading.specs.Reading.{Goal}
 use Rattle.rhai_productions.specs.Laws.{state_at}
 use Rattle.rhai_productions.specs.Lines.{IsExpression, IsScript, Refuses, expression, script}
 use Rattle.rhai_productions.proofs.LawLemmas.{forms_are_sound}
+use Rattle.rhai_grammar.specs.RowStreams.{unread}
 
 pub refuses : {g : Goal} {tokens : List (Lexeme × ℕ)} {end : ℕ} {why : Cause} {column : ℕ} (t : State)
     → calls 60 g (state_at (unread tokens end) false) ≡ Refused (refusal why (place 1 column)) t

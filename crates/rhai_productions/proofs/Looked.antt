@@ -8,8 +8,8 @@ use Rattle.rhai_productions.specs.Agreement.{Agrees}
 
 -- a token that was looked at is still the next one
 pub record Lawful {S : Type 0} (m : Moves S) : Type 0 where
-  pub same : (s : S) → m.asked (m.looking s) ≡ m.asked s
-  pub twice : (s : S) → m.looking (m.looking s) ≡ m.looking s
+  pub same : (s : S) → m.next_item (m.after_peek s) ≡ m.next_item s
+  pub twice : (s : S) → m.after_peek (m.after_peek s) ≡ m.after_peek s
 
 by_test : {O : Type 0} (b : Bool) (o : O) {a c : O} → (b ≡ false → a ≡ c) → (if b then o else a) ≡ (if b then o else c)
 by_test true o e = refl
@@ -20,9 +20,9 @@ otherwise o a e = ap (λ b. if b then o else a) e
 
 module _ {S : Type 0} (m : Moves S) (law : Lawful m) where
   pub record Here (l : Lexeme) (at : Position) (s : S) : Type 0 where
-    pub is : m.asked s ≡ item l at
+    pub is : m.next_item s ≡ item l at
     pub readable : is_memory l ≡ false
-    pub looked : m.looking s ≡ s
+    pub looked : m.after_peek s ≡ s
 
   -- so they do where this token was looked at
   pub record AgreesAt {A : Type 0} (l : Lexeme) (p_at : Position) (p q : Prog A) : Type 0 where
@@ -41,9 +41,9 @@ module _ {S : Type 0} (m : Moves S) (law : Lawful m) where
       → ((l : Lexeme) (at : Position) → AgreesAt l at (p l at) (q l at)) → Agrees m (Peek p) (Peek q)
   look {p = p} {q = q} r = record {
     on = λ call s.
-        let i = m.asked s in
-        by_test (is_memory i.lexeme) (Refused out_of_memory (m.looking s))
-        (λ f. (r i.lexeme i.at).with call (m.looking s) (record {
+        let i = m.next_item s in
+        by_test (is_memory i.lexeme) (Refused out_of_memory (m.after_peek s))
+        (λ f. (r i.lexeme i.at).with call (m.after_peek s) (record {
           is = law.same s;
           readable = f;
           looked =
@@ -57,15 +57,15 @@ module _ {S : Type 0} (m : Moves S) (law : Lawful m) where
   again {l = l} {at = at} q r = record {
     with = λ call s h.
         r.with call s h ∙ sym (
-        otherwise (Refused out_of_memory (m.looking s)) _ (ap (λ (i : Item). is_memory i.lexeme) h.is ∙ h.readable)
-        ∙ ap (λ (i : Item). exec m call (q i.lexeme i.at) (m.looking s)) h.is
+        otherwise (Refused out_of_memory (m.after_peek s)) _ (ap (λ (i : Item). is_memory i.lexeme) h.is ∙ h.readable)
+        ∙ ap (λ (i : Item). exec m call (q i.lexeme i.at) (m.after_peek s)) h.is
         ∙ ap (λ z. exec m call (q l at) z) h.looked);
   }
 
   pub taken : {A : Type 0} {p q : Prog A} → Agrees m p q → Agrees m (Take p) (Take q)
   taken r = record {
     on = λ call s.
-        by_test (is_memory (m.asked s).lexeme) (Refused out_of_memory (m.looking s)) (λ f. r.on call (m.taking s));
+        by_test (is_memory (m.next_item s).lexeme) (Refused out_of_memory (m.after_peek s)) (λ f. r.on call (m.after_take s));
   }
 
   pub part_so : {A : Type 0} (g : Goal) {p q : Val g → Prog A} → ((v : Val g) → Agrees m (p v) (q v))

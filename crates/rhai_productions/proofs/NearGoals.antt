@@ -5,7 +5,7 @@ use Rattle.rhai_lower.specs.Nodes as node
 use Rattle.rhai_grammar.specs.Shapes.{node_shape, nodes_shape, optional_shape, properties_shape, statement_shape}
 use Rattle.rhai_grammar.specs.Shapes.{statements_shape, block_shape}
 use Rattle.rhai_grammar.specs.declared.filter.ExprFilter.{ExprFilter}
-use Rattle.rhai_grammar.specs.declared.role.OperandPlace.{OperandPlace}
+use Rattle.rhai_grammar.specs.declared.role.OperandRole.{OperandRole}
 use Rattle.rhai_grammar.specs.Prelude.{Position, Context, Live, Text, Node, Nodes, Properties, Link, Comment, Collected}
 use Rattle.rhai_grammar.specs.declared.role.Construct.{Construct as Kind}
 use Rattle.rhai_grammar.specs.declared.role.Closing.{Closing}
@@ -20,7 +20,7 @@ pub data Near : Goal → Goal → Type 0 where
   wholes : {c : Context} {w : Live} → Near (R.Whole c w) (R.Whole c w)
   expressions_ : {c : Context} {w : Live} → Near (R.Expression c w) (R.Expression c w)
   operands : {c : Context} {w : Live} → Near (R.Operand c w) (R.Operand c w)
-  rights : {c : Context} {w : Live} {p : OperandPlace} → Near (R.RightOperand c w p) (R.RightOperand c w p)
+  rights : {c : Context} {w : Live} {p : OperandRole} → Near (R.RightOperand c w p) (R.RightOperand c w p)
   primaries : {c : Context} {w : Live} → Near (R.Primary c w) (R.Primary c w)
   calleds : {c : Context} {w : Live} {at pos : Position} {p q : Bool} → Near (R.Called c w at p) (R.Called c w pos q)
   paths : {w : Live} {x y : Node} → node_shape x ≡ node_shape y → Near (R.Path w x) (R.Path w y)

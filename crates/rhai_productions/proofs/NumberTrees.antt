@@ -16,7 +16,7 @@ use Rattle.rhai_grammar.specs.Prelude.{reused, with_alias, with_constant}
 use Rattle.rhai_grammar.proofs.NumberSteps as N
 use Rattle.rhai_grammar.proofs.NumberSteps.{AllLinks, IsCollected}
 use Rattle.rhai_productions.specs.Numbered.{names, Leaves}
-use Rattle.rhai_productions.specs.Schema.{name}
+use Rattle.rhai_grammar.specs.Productions.{name}
 
 pub one_node : (ns : List Text) (xs : Nodes) (x : Node) → AllWellNumbered ns xs → WellNumbered ns x
     → AllWellNumbered ns (with_node xs x)

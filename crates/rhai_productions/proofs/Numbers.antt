@@ -14,11 +14,11 @@ use Rattle.rhai_grammar.proofs.NumberSteps.{AllLinks, IsCollected}
 use Rattle.rhai_reading.specs.Reading as R
 use Rattle.rhai_reading.specs.Reading.{Goal, Val}
 use Rattle.rhai_reading.proofs.Looks.{op_at}
-use Rattle.rhai_productions.specs.Rules.{production}
-use Rattle.rhai_productions.specs.Derived as D
+use Rattle.rhai_grammar.specs.Rules.{production}
+use Rattle.rhai_grammar.specs.Forms as D
 use Rattle.rhai_productions.specs.Numbered as Z
 use Rattle.rhai_productions.specs.Numbered.{ClosureParts, names, UnlessCalled, Right, TreesAreWellNumbered}
-use Rattle.rhai_productions.specs.Rules as P
+use Rattle.rhai_grammar.specs.Rules as P
 use Rattle.rhai_productions.specs.Kept.{Keeps}
 use Rattle.rhai_productions.proofs.NumberTrees.{closure_body, one_node, one_text, definition, with_path, function}
 use Rattle.rhai_productions.proofs.Keeping as K

@@ -9,12 +9,12 @@ use Rattle.rhai_grammar.specs.declared.list.AfterPart.TheVariants as after
 use Rattle.rhai_grammar.specs.declared.list.CommaList.TheVariants as lists
 use Rattle.rhai_grammar.specs.declared.role.Beginning.TheVariants as begin
 use Rattle.rhai_grammar.specs.declared.role.Calling.TheVariants as calls_by
-use Rattle.rhai_grammar.specs.declared.role.ItemPlace.TheVariants as place
+use Rattle.rhai_grammar.specs.declared.role.ItemRole.TheVariants as place
 use Rattle.rhai_grammar.specs.declared.role.Linking.TheVariants as link
 use Rattle.rhai_grammar.specs.declared.role.OperandStart.TheVariants as first
 use Rattle.rhai_grammar.specs.Prelude.{Lexeme, Position, Context, Live, Text, text_of, Node, Nodes, Properties}
-use Rattle.rhai_grammar.specs.Prelude.{no_nodes, may_be_value, KeyPlace, FieldsEnd, AKey, NoKey, LinkSpot, calls}
-use Rattle.rhai_grammar.specs.Prelude.{may_be_called, is_this, MemberPlace, AMember, NoMember, excludes_use, qualifies}
+use Rattle.rhai_grammar.specs.Prelude.{no_nodes, may_be_value, KeyRole, FieldsEnd, AKey, NoKey, LinkSpot, calls}
+use Rattle.rhai_grammar.specs.Prelude.{may_be_called, is_this, MemberRole, AMember, NoMember, excludes_use, qualifies}
 use Rattle.rhai_grammar.specs.Prelude.{Follower, Operator, Unknown, Other, name_tree, is_variable, bracket_link}
 use Rattle.rhai_grammar.specs.Prelude.{member_link, may_be_closure, AllWellNumbered, WellNumbered, WellNumberedBlock}
 use Rattle.rhai_grammar.specs.declared.role.Construct.{Construct as Kind}
@@ -22,16 +22,17 @@ use Rattle.rhai_grammar.specs.declared.list.AfterPart.{AfterPart}
 use Rattle.rhai_grammar.specs.declared.list.CommaList.{CommaList}
 use Rattle.rhai_grammar.specs.declared.role.Beginning.{Beginning}
 use Rattle.rhai_grammar.specs.declared.role.Calling.{Calling}
-use Rattle.rhai_grammar.specs.declared.role.ItemPlace.{ItemPlace}
+use Rattle.rhai_grammar.specs.declared.role.ItemRole.{ItemRole}
 use Rattle.rhai_grammar.specs.declared.role.Linking.{Linking}
 use Rattle.rhai_grammar.specs.declared.role.OperandStart.{OperandStart}
 use Rattle.rhai_grammar.proofs.NumberSteps as N
 use Rattle.rhai_grammar.proofs.NumberSteps.{AllLinks, IsCollected}
+use Rattle.rhai_grammar.specs.Strengths.{continues}
 use Rattle.rhai_reading.specs.Reading as R
 use Rattle.rhai_reading.specs.Reading.{Goal, Val}
-use Rattle.rhai_productions.specs.Schema.{Production}
-use Rattle.rhai_productions.specs.Rules as P
-use Rattle.rhai_productions.specs.Rules.{production}
+use Rattle.rhai_grammar.specs.Productions.{Production}
+use Rattle.rhai_grammar.specs.Rules as P
+use Rattle.rhai_grammar.specs.Rules.{production}
 use Rattle.rhai_productions.specs.Kept.{Keeps}
 use Rattle.rhai_productions.specs.Numbered.{names, Leaves, UnlessCalled, Right}
 use Rattle.rhai_productions.proofs.NumberTrees.{one_node, one_property, one_text, one_link, handled, catches}
@@ -147,7 +148,7 @@ pub call_of : (c : Context) (w : Live) (x : Node) (n : Lexeme) → (is_variable 
     → KeepsIn (λ y. UnlessCalled (names w) x n → WellNumbered (names w) y) (P.call_of c w x) n
 call_of c w x n q = (λ e call m k fault u. k, λ e u. u (neither (is_variable x) (calls n) (qualifies n) e q))
 
-pub dotted : (w : Live) (spot : LinkSpot) (l : Lexeme) (at : Position) (v : MemberPlace) (n : Lexeme)
+pub dotted : (w : Live) (spot : LinkSpot) (l : Lexeme) (at : Position) (v : MemberRole) (n : Lexeme)
     → KeepsIn (λ ls. AllLinks (names w) spot.before → AllLinks (names w) ls) (P.dotted_by w spot l at v) n
 dotted w spot l at AMember n = λ room x m h ls o k before.
     k (one_link (names w) spot.before (member_link l at x) before h)
@@ -166,7 +167,7 @@ parted R parts on end after.Comma n g h = λ at m. g m
 parted R parts on end after.Close n g h = λ at m. h m
 parted R parts on end after.Nothing n g h = tt
 
-pub element : (c : Context) (w : Live) (opening : Position) (before : Nodes) (v : ItemPlace) (n : Lexeme)
+pub element : (c : Context) (w : Live) (opening : Position) (before : Nodes) (v : ItemRole) (n : Lexeme)
     → KeepsIn (λ xs. AllWellNumbered (names w) before → AllWellNumbered (names w) xs)
     (P.element_by c w opening before v) n
 element c w opening before place.End n = λ at m h. h
@@ -175,7 +176,7 @@ element c w opening before place.Item n = λ room x m h v e.
     (λ o xs q k b. k (one_node (names w) before x b h)) (λ o b. one_node (names w) before x b h)
 element c w opening before place.Nothing n = tt
 
-pub key : (c : Context) (before : Properties) (v : KeyPlace) (n : Lexeme) → KeepsIn (λ x. Unit {0})
+pub key : (c : Context) (before : Properties) (v : KeyRole) (n : Lexeme) → KeepsIn (λ x. Unit {0})
     (P.key_by c before v) n
 key c before FieldsEnd n = λ at m. tt
 key c before (AKey k) n = λ at m ok is p o. (λ e. tt, λ e. tt)
@@ -198,7 +199,7 @@ pub binary : (c : Context) (w : Live) (at : Position) (parent : ℕ) (lhs : Node
     → KeepsIn (λ x. WellNumbered (names w) lhs → WellNumbered (names w) x) (P.binary_of c w at parent lhs v) n
 binary c w at parent lhs None n = λ h. h
 binary c w at parent lhs (Some op) n =
-    by_either (λ x m. WellNumbered (names w) lhs → WellNumbered (names w) x) (R.continues parent op.0 op.1) _ _ n
+    by_either (λ x m. WellNumbered (names w) lhs → WellNumbered (names w) x) (continues parent op.0 op.1) _ _ n
     (λ pos m y o h v q u room r a k left rite x b g before.
     g (N.operator (names w) (joining n) n pos lhs r before (k h)))
     (λ h. h)

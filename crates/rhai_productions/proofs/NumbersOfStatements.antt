@@ -4,30 +4,30 @@ use Rattle.std.proofs.Common.{◌≡◌, Bool, true, false, List, [], ◌∷◌,
 use Rattle.rhai_lower.specs.Nodes as node
 use Rattle.rhai_grammar.specs.TreeNumbers.{names_after_all}
 use Rattle.rhai_grammar.specs.declared.role.AfterStatement.TheVariants as ends
-use Rattle.rhai_grammar.specs.declared.role.StatementPlace.TheVariants as stands
+use Rattle.rhai_grammar.specs.declared.role.StatementRole.TheVariants as stands
 use Rattle.rhai_grammar.specs.declared.list.AfterPart.TheVariants as after
-use Rattle.rhai_grammar.specs.declared.role.ArmPlace.TheVariants as arm
+use Rattle.rhai_grammar.specs.declared.role.ArmRole.TheVariants as arm
 use Rattle.rhai_grammar.specs.declared.role.Bars.TheVariants as bars
 use Rattle.rhai_grammar.specs.declared.role.Calling.TheVariants as calls_by
-use Rattle.rhai_grammar.specs.declared.role.ItemPlace.TheVariants as place
+use Rattle.rhai_grammar.specs.declared.role.ItemRole.TheVariants as place
 use Rattle.rhai_grammar.specs.declared.role.StatementStart.TheVariants as start
 use Rattle.rhai_grammar.specs.Prelude.{Lexeme, Position, Context, Live, Text, text_of, Node, ends_itself, with_kept}
 use Rattle.rhai_grammar.specs.Prelude.{Comment, Collected, Use, WellNumbered, WellNumberedStatements, number}
 use Rattle.rhai_grammar.specs.declared.role.AfterStatement.{AfterStatement}
 use Rattle.rhai_grammar.specs.declared.role.Closing.{Closing}
-use Rattle.rhai_grammar.specs.declared.role.StatementPlace.{StatementPlace}
+use Rattle.rhai_grammar.specs.declared.role.StatementRole.{StatementRole}
 use Rattle.rhai_grammar.specs.declared.list.AfterPart.{AfterPart}
 use Rattle.rhai_grammar.specs.declared.list.CommaList.{CommaList}
-use Rattle.rhai_grammar.specs.declared.role.ArmPlace.{ArmPlace}
+use Rattle.rhai_grammar.specs.declared.role.ArmRole.{ArmRole}
 use Rattle.rhai_grammar.specs.declared.role.Bars.{Bars}
 use Rattle.rhai_grammar.specs.declared.role.Calling.{Calling}
-use Rattle.rhai_grammar.specs.declared.role.ItemPlace.{ItemPlace}
+use Rattle.rhai_grammar.specs.declared.role.ItemRole.{ItemRole}
 use Rattle.rhai_grammar.specs.declared.role.StatementStart.{StatementStart}
 use Rattle.rhai_grammar.proofs.NumberSteps as N
 use Rattle.rhai_grammar.proofs.NumberSteps.{AllLinks, IsCollected}
-use Rattle.rhai_productions.specs.Schema.{Production}
-use Rattle.rhai_productions.specs.Rules as P
-use Rattle.rhai_productions.specs.Rules.{production}
+use Rattle.rhai_grammar.specs.Productions.{Production}
+use Rattle.rhai_grammar.specs.Rules as P
+use Rattle.rhai_grammar.specs.Rules.{production}
 use Rattle.rhai_productions.specs.Numbered.{names, Leaves}
 use Rattle.rhai_productions.proofs.NumberTrees.{kept_statement, export_names, closure}
 use Rattle.rhai_productions.proofs.NumbersOfOperands.{KeepsIn, by_either, parted}
@@ -87,7 +87,7 @@ after_one closing c w v before f false n h = λ y e. by y
     by ends.Close = from_one w v before f h (with_kept before f, v) (λ ns g e. (g, e))
     by ends.Nothing = tt
 
-pub statements : (closing : Closing) (c : Context) (w : Live) (fs : node.Statements) (v : StatementPlace) (n : Lexeme)
+pub statements : (closing : Closing) (c : Context) (w : Live) (fs : node.Statements) (v : StatementRole) (n : Lexeme)
     → KeepsIn (ListRight w fs) (P.statements closing c w fs v) n
 statements closing c w fs stands.Close n = λ ns h e. (h, e)
 statements closing c w fs stands.Statement n = λ f m h. after_one closing c w f.1 fs f.0 (ends_itself f.0) m h
@@ -102,7 +102,7 @@ pub do_end_kept : (v : Option Bool) (n : Lexeme) → KeepsIn (λ x. Unit {0}) (P
 do_end_kept None n = tt
 do_end_kept (Some b) n = λ at m. tt
 
-pub arms : (c : Context) (w : Live) (before : Collected) (v : ArmPlace) (n : Lexeme)
+pub arms : (c : Context) (w : Live) (before : Collected) (v : ArmRole) (n : Lexeme)
     → KeepsIn (λ x. IsCollected (names w) before → IsCollected (names w) x) (P.arms_by c w before v) n
 arms c w before arm.Case n = λ a m h x o k b. k (N.arm (names w) before a.0 a.1 a.2 h.0 h.1 h.2 b)
 arms c w before arm.Default n = λ at m x o h b. N.default_arm (names w) before x h b
@@ -119,7 +119,7 @@ arm_end itself after.Comma n = λ at m. tt
 arm_end itself after.Close n = tt
 arm_end itself after.Nothing n = by_either (λ x m. Unit {0}) itself _ _ n tt tt
 
-pub default_end : (default : Position) (v : ArmPlace) (n : Lexeme) → KeepsIn (λ x. Unit {0})
+pub default_end : (default : Position) (v : ArmRole) (n : Lexeme) → KeepsIn (λ x. Unit {0})
     (P.default_end_by default v) n
 default_end default arm.Close n = λ at m. tt
 default_end default arm.Nothing n = tt
@@ -131,7 +131,7 @@ parameters f calls_by.List n = λ at m r o h. tt
 parameters f calls_by.Bang n = tt
 parameters f calls_by.Nothing n = tt
 
-pub parameter : (parts : CommaList) (f : Text) (before : List Text) (v : ItemPlace) (n : Lexeme)
+pub parameter : (parts : CommaList) (f : Text) (before : List Text) (v : ItemRole) (n : Lexeme)
     → KeepsIn (λ x. Unit {0}) (P.parameter_by parts f before v) n
 parameter parts f before place.End n = λ at m. tt
 parameter parts f before place.Item n = λ at m ok v e. parted (λ x. Unit {0}) parts _ _ v m (λ o r q h. tt) (λ o. tt)

@@ -13,11 +13,11 @@ use Rattle.rhai_lower.specs.Lexemes.{Faulty}
 use Rattle.rhai_grammar.proofs.Duplicates.{Spares, either, is_duplicate, literal, refused, same_cause}
 use Rattle.rhai_grammar.proofs.LibrarySteps.{Kept}
 use Rattle.rhai_reading.specs.Reading.{Goal, Val}
-use Rattle.rhai_productions.specs.Schema.{Production, Seen, view}
-use Rattle.rhai_productions.specs.Schema as S
-use Rattle.rhai_productions.specs.Derived as F
-use Rattle.rhai_productions.specs.Derived.{given, take, this, if_so, if_not, choose, here, must, knows, adds, uses}
-use Rattle.rhai_productions.specs.Derived.{captures, part, apart, in_text, form}
+use Rattle.rhai_grammar.specs.Productions.{Production, Seen, view}
+use Rattle.rhai_grammar.specs.Productions as S
+use Rattle.rhai_grammar.specs.Forms as F
+use Rattle.rhai_grammar.specs.Forms.{given, take, this, if_so, if_not, choose, here, must, knows, adds, uses}
+use Rattle.rhai_grammar.specs.Forms.{captures, part, apart, in_text, form}
 
 -- a cause that is not that a closure's key is there
 abbrev pub Spared : Refusal → Type 0

@@ -16,9 +16,9 @@ use Rattle.rhai_grammar.proofs.EventEnds.{no_closure}
 use Rattle.rhai_grammar.proofs.SparedFaults as D
 use Rattle.rhai_reading.specs.Reading as R
 use Rattle.rhai_reading.specs.Reading.{Goal, Val}
-use Rattle.rhai_productions.specs.Schema.{give}
-use Rattle.rhai_productions.specs.Rules as P
-use Rattle.rhai_productions.specs.Rules.{production}
+use Rattle.rhai_grammar.specs.Productions.{give}
+use Rattle.rhai_grammar.specs.Rules as P
+use Rattle.rhai_grammar.specs.Rules.{production}
 use Rattle.rhai_productions.proofs.Ordering.{Spared, missing_spared, unexpected_spared}
 use Rattle.rhai_productions.proofs.OrderCauses.{fault, no_body, no_function_name, no_variable}
 use Rattle.rhai_productions.proofs.OrdersOfOperands.{Begun, OrdersAs, Right, by_either, either_of, parted, operand}
@@ -29,7 +29,7 @@ use Rattle.rhai_grammar.specs.Prelude.{Point, Met, Missed, Mode, IsOrderly, Noth
 use Rattle.rhai_grammar.specs.Prelude.{is_captured, in_closure, level_up, parameters_live}
 use Rattle.rhai_grammar.proofs.LibraryLemmas.{empty}
 use Rattle.rhai_reading.specs.Reading.{ClosureBody}
-use Rattle.rhai_productions.specs.Derived as Form
+use Rattle.rhai_grammar.specs.Forms as Form
 use Rattle.rhai_productions.specs.LibraryLaws.{FormsKeepOrder, LibrariesStayOrderly}
 use Rattle.rhai_productions.proofs.Ordering.{ended, ordered, stops}
 use Rattle.rhai_productions.proofs.OrdersOfStatements.{construct, export, statement, statements, inside, do_end, arms}

@@ -6,30 +6,31 @@ use Rattle.rhai_grammar.specs.declared.list.AfterPart.TheVariants as after
 use Rattle.rhai_grammar.specs.declared.list.CommaList.TheVariants as lists
 use Rattle.rhai_grammar.specs.declared.role.Beginning.TheVariants as begin
 use Rattle.rhai_grammar.specs.declared.role.Calling.TheVariants as calls_by
-use Rattle.rhai_grammar.specs.declared.role.ItemPlace.TheVariants as place
+use Rattle.rhai_grammar.specs.declared.role.ItemRole.TheVariants as place
 use Rattle.rhai_grammar.specs.declared.role.Linking.TheVariants as link
 use Rattle.rhai_grammar.specs.declared.role.OperandStart.TheVariants as first
 use Rattle.rhai_grammar.specs.Prelude.{Lexeme, Position, Context, Live, Text, text_of, Node}
-use Rattle.rhai_grammar.specs.Prelude.{Nodes, Properties, may_be_value, module_fault, KeyPlace}
+use Rattle.rhai_grammar.specs.Prelude.{Nodes, Properties, may_be_value, module_fault, KeyRole}
 use Rattle.rhai_grammar.specs.Prelude.{FieldsEnd, AKey, NoKey, LinkSpot, last_fault, is_this}
-use Rattle.rhai_grammar.specs.Prelude.{MemberPlace, AMember, NoMember, Follower, Operator, Unknown, Other}
-use Rattle.rhai_grammar.specs.Prelude.{may_be_closure, Library, member_place}
+use Rattle.rhai_grammar.specs.Prelude.{MemberRole, AMember, NoMember, Follower, Operator, Unknown, Other}
+use Rattle.rhai_grammar.specs.Prelude.{may_be_closure, Library, member_role}
 use Rattle.rhai_grammar.specs.Prelude.{duplicate_of, names_function, is_closure}
 use Rattle.rhai_grammar.specs.Verdicts as V
 use Rattle.rhai_grammar.specs.declared.list.AfterPart.{AfterPart}
 use Rattle.rhai_grammar.specs.declared.list.CommaList.{CommaList}
 use Rattle.rhai_grammar.specs.declared.role.Beginning.{Beginning}
 use Rattle.rhai_grammar.specs.declared.role.Calling.{Calling}
-use Rattle.rhai_grammar.specs.declared.role.ItemPlace.{ItemPlace}
+use Rattle.rhai_grammar.specs.declared.role.ItemRole.{ItemRole}
 use Rattle.rhai_grammar.specs.declared.role.Linking.{Linking}
 use Rattle.rhai_grammar.specs.declared.role.OperandStart.{OperandStart}
 use Rattle.rhai_grammar.proofs.LibrarySteps.{Kept}
 use Rattle.rhai_grammar.proofs.SparedFaults as D
+use Rattle.rhai_grammar.specs.Strengths.{continues}
 use Rattle.rhai_reading.specs.Reading as R
 use Rattle.rhai_reading.specs.Reading.{Goal, Val}
-use Rattle.rhai_productions.specs.Schema.{Production}
-use Rattle.rhai_productions.specs.Rules as P
-use Rattle.rhai_productions.specs.Rules.{production}
+use Rattle.rhai_grammar.specs.Productions.{Production}
+use Rattle.rhai_grammar.specs.Rules as P
+use Rattle.rhai_grammar.specs.Rules.{production}
 use Rattle.rhai_productions.proofs.Ordering.{Orders, Spared, missing_spared, unexpected_spared}
 use Rattle.rhai_productions.proofs.OrderCauses.{fault, key_spared, member_spared, no_item, no_operand}
 
@@ -186,8 +187,8 @@ module _ (limit : ℕ) where
     (tt, o),
   )
 
-  pub dotted : (w : Live) (spot : LinkSpot) (t : Lexeme) (at : Position) (v : MemberPlace) (n : Lexeme)
-      → member_place n ≡ v → (b : ℕ) (l : Library) → Fits limit b spot.settings → Kept limit b l
+  pub dotted : (w : Live) (spot : LinkSpot) (t : Lexeme) (at : Position) (v : MemberRole) (n : Lexeme)
+      → member_role n ≡ v → (b : ℕ) (l : Library) → Fits limit b spot.settings → Kept limit b l
       → OrdersIn b (P.dotted_by w spot t at v) l
   dotted w spot t at AMember n e b l i o =
       (λ e. refl, λ s. (b, o, i, λ x m r o. (b, o, (i, i), λ ls m r o. (tt, o))))
@@ -211,7 +212,7 @@ module _ (limit : ℕ) where
   links w spot link.Dot b l i j o = λ n at v m e. dotted w spot n at v m e b l i o
   links w spot link.Nothing b l i j o = (fault (last_fault spot.before) (D.last_fault spot.before), λ s. (tt, o))
 
-  pub element : (c : Context) (w : Live) (opening : Position) (before : Nodes) (v : ItemPlace) (b : ℕ) (l : Library)
+  pub element : (c : Context) (w : Live) (opening : Position) (before : Nodes) (v : ItemRole) (b : ℕ) (l : Library)
       → Fits limit b c → Kept limit b l → OrdersIn b (P.element_by c w opening before v) l
   element c w opening before place.End b l i o = λ n at. (tt, o)
   element c w opening before place.Item b l i o = (
@@ -226,7 +227,7 @@ module _ (limit : ℕ) where
   )
   element c w opening before place.Nothing b l i o = no_item c.sizes.array
 
-  pub key : (c : Context) (before : Properties) (v : KeyPlace) (n : Lexeme) → V.next_key c.settings before n ≡ v
+  pub key : (c : Context) (before : Properties) (v : KeyRole) (n : Lexeme) → V.next_key c.settings before n ≡ v
       → (b : ℕ)
       (l : Library) → Kept limit b l → OrdersIn b (P.key_by c before v) l
   key c before FieldsEnd n e b l o = λ n at. (tt, o)
@@ -255,7 +256,7 @@ module _ (limit : ℕ) where
   pub binary : (c : Context) (w : Live) (at : Position) (parent : ℕ) (lhs : Node) (v : Option (ℕ × Bool)) (b : ℕ)
       (l : Library) → Fits limit b c → Kept limit b l → OrdersIn b (P.binary_of c w at parent lhs v) l
   binary c w at parent lhs None b l i o = (tt, o)
-  binary c w at parent lhs (Some op) b l i o = either_of (R.continues parent op.0 op.1) _ _ b l
+  binary c w at parent lhs (Some op) b l i o = either_of (continues parent op.0 op.1) _ _ b l
       (λ n pos. (
         b,
         o,

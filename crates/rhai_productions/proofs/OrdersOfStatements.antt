@@ -6,12 +6,12 @@ use Rattle.rhai_lower.specs.Nodes as node
 use Rattle.rhai_lower.specs.Positions.{nowhere}
 use Rattle.rhai_grammar.specs.declared.role.Construct.TheVariants as kind
 use Rattle.rhai_grammar.specs.declared.role.AfterStatement.TheVariants as ends
-use Rattle.rhai_grammar.specs.declared.role.StatementPlace.TheVariants as stands
+use Rattle.rhai_grammar.specs.declared.role.StatementRole.TheVariants as stands
 use Rattle.rhai_grammar.specs.declared.list.AfterPart.TheVariants as after
-use Rattle.rhai_grammar.specs.declared.role.ArmPlace.TheVariants as arm
+use Rattle.rhai_grammar.specs.declared.role.ArmRole.TheVariants as arm
 use Rattle.rhai_grammar.specs.declared.role.Bars.TheVariants as bars
 use Rattle.rhai_grammar.specs.declared.role.Calling.TheVariants as calls_by
-use Rattle.rhai_grammar.specs.declared.role.ItemPlace.TheVariants as place
+use Rattle.rhai_grammar.specs.declared.role.ItemRole.TheVariants as place
 use Rattle.rhai_grammar.specs.declared.role.StatementStart.TheVariants as start
 use Rattle.rhai_grammar.specs.Prelude.{Position, Context, Live, Text}
 use Rattle.rhai_grammar.specs.Prelude.{ends_itself, with_kept}
@@ -21,19 +21,19 @@ use Rattle.rhai_grammar.specs.Prelude.{with_ended, closure_count, closure_name, 
 use Rattle.rhai_grammar.specs.declared.role.Construct.{Construct as Kind}
 use Rattle.rhai_grammar.specs.declared.role.AfterStatement.{AfterStatement}
 use Rattle.rhai_grammar.specs.declared.role.Closing.{Closing}
-use Rattle.rhai_grammar.specs.declared.role.StatementPlace.{StatementPlace}
+use Rattle.rhai_grammar.specs.declared.role.StatementRole.{StatementRole}
 use Rattle.rhai_grammar.specs.declared.list.AfterPart.{AfterPart}
 use Rattle.rhai_grammar.specs.declared.list.CommaList.{CommaList}
-use Rattle.rhai_grammar.specs.declared.role.ArmPlace.{ArmPlace}
+use Rattle.rhai_grammar.specs.declared.role.ArmRole.{ArmRole}
 use Rattle.rhai_grammar.specs.declared.role.Bars.{Bars}
 use Rattle.rhai_grammar.specs.declared.role.Calling.{Calling}
-use Rattle.rhai_grammar.specs.declared.role.ItemPlace.{ItemPlace}
+use Rattle.rhai_grammar.specs.declared.role.ItemRole.{ItemRole}
 use Rattle.rhai_grammar.specs.declared.role.StatementStart.{StatementStart}
 use Rattle.rhai_grammar.proofs.LibrarySteps.{Kept, few_closures, one_begins, one_ends}
 use Rattle.rhai_grammar.proofs.LibraryLemmas.{closure_added, function_added, key_is_new}
-use Rattle.rhai_productions.specs.Schema.{Production, adds, give, knows}
-use Rattle.rhai_productions.specs.Rules as P
-use Rattle.rhai_productions.specs.Rules.{production}
+use Rattle.rhai_grammar.specs.Productions.{Production, adds, give, knows}
+use Rattle.rhai_grammar.specs.Rules as P
+use Rattle.rhai_grammar.specs.Rules.{production}
 use Rattle.rhai_productions.proofs.Ordering.{Spared, missing_spared, within}
 use Rattle.rhai_productions.proofs.OrderCauses.{no_parameter, no_parameters, no_variable}
 use Rattle.rhai_productions.proofs.OrdersOfOperands.{Begun, Fits, OrdersIn, Right, either_of, parted}
@@ -99,7 +99,7 @@ module _ (limit : ℕ) where
   after_one closing c w fs true b l i o = (b, o, i, λ x m r o. (tt, o))
   after_one closing c w fs false b l i o = λ v n e. separated closing c w fs v b l i o
 
-  pub statements : (closing : Closing) (c : Context) (w : Live) (fs : node.Statements) (v : StatementPlace) (b : ℕ)
+  pub statements : (closing : Closing) (c : Context) (w : Live) (fs : node.Statements) (v : StatementRole) (b : ℕ)
       (l : Library) → Fits limit b c → Kept limit b l → OrdersIn limit b (P.statements closing c w fs v) l
   statements closing c w fs stands.Close b l i o = (tt, o)
   statements closing c w fs stands.Statement b l i o = (
@@ -120,7 +120,7 @@ module _ (limit : ℕ) where
   do_end None b l o = missing_spared _
   do_end (Some s) b l o = λ n at. (tt, o)
 
-  pub arms : (c : Context) (w : Live) (before : Collected) (v : ArmPlace) (b : ℕ) (l : Library) → Fits limit b c
+  pub arms : (c : Context) (w : Live) (before : Collected) (v : ArmRole) (b : ℕ) (l : Library) → Fits limit b c
       → Kept limit b l → OrdersIn limit b (P.arms_by c w before v) l
   arms c w before arm.Case b l i o = (b, o, i, λ x m r o. (b, o, i, λ x m r o. (tt, o)))
   arms c w before arm.Default b l i o = λ n at. (b, o, i, λ x m r o. (tt, o))
@@ -138,7 +138,7 @@ module _ (limit : ℕ) where
   arm_end itself after.Close b l o = (tt, o)
   arm_end itself after.Nothing b l o = either_of limit itself _ _ b l (tt, o) (λ n. missing_spared _ n)
 
-  pub default_end : (default : Position) (v : ArmPlace) (b : ℕ) (l : Library) → Kept limit b l
+  pub default_end : (default : Position) (v : ArmRole) (b : ℕ) (l : Library) → Kept limit b l
       → OrdersIn limit b (P.default_end_by default v) l
   default_end default arm.Close b l o = λ n at. (tt, o)
   default_end default arm.Nothing b l o = missing_spared _
@@ -151,7 +151,7 @@ module _ (limit : ℕ) where
   parameters f calls_by.Bang b l o = no_parameters f
   parameters f calls_by.Nothing b l o = no_parameters f
 
-  pub parameter : (parts : CommaList) (f : Text) (before : List Text) (v : ItemPlace) (b : ℕ) (l : Library)
+  pub parameter : (parts : CommaList) (f : Text) (before : List Text) (v : ItemRole) (b : ℕ) (l : Library)
       → Kept limit b l → OrdersIn limit b (P.parameter_by parts f before v) l
   parameter parts f before place.End b l o = λ n at. (tt, o)
   parameter parts f before place.Item b l o = λ n at.

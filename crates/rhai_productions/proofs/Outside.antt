@@ -10,47 +10,48 @@ use Rattle.std.specs.Int.RustNames.{bit_and}
 use Rattle.rhai_lower.specs.Nodes as node
 use Rattle.rhai_grammar.specs.declared.role.Construct.TheVariants as kind
 use Rattle.rhai_grammar.specs.declared.role.AfterStatement.TheVariants as ends
-use Rattle.rhai_grammar.specs.declared.role.StatementPlace.TheVariants as stands
+use Rattle.rhai_grammar.specs.declared.role.StatementRole.TheVariants as stands
 use Rattle.rhai_grammar.specs.declared.list.AfterPart.TheVariants as after
 use Rattle.rhai_grammar.specs.declared.list.CommaList.TheVariants as lists
-use Rattle.rhai_grammar.specs.declared.role.ArmPlace.TheVariants as arm
+use Rattle.rhai_grammar.specs.declared.role.ArmRole.TheVariants as arm
 use Rattle.rhai_grammar.specs.declared.role.Bars.TheVariants as bars
 use Rattle.rhai_grammar.specs.declared.role.Beginning.TheVariants as begin
 use Rattle.rhai_grammar.specs.declared.role.Calling.TheVariants as calls_by
-use Rattle.rhai_grammar.specs.declared.role.ItemPlace.TheVariants as place
+use Rattle.rhai_grammar.specs.declared.role.ItemRole.TheVariants as place
 use Rattle.rhai_grammar.specs.declared.role.Linking.TheVariants as link
 use Rattle.rhai_grammar.specs.declared.role.OperandStart.TheVariants as first
 use Rattle.rhai_grammar.specs.declared.role.StatementStart.TheVariants as start
 use Rattle.rhai_grammar.specs.Prelude.{Lexeme, Position, Context, Live, Text, text_of, Node, loop_body, is_name}
 use Rattle.rhai_grammar.specs.Prelude.{ends_itself, with_kept, Nodes, Properties, below_global, has_single_blocks}
-use Rattle.rhai_grammar.specs.Prelude.{may_be_value, KeyPlace, FieldsEnd, AKey, NoKey, LinkSpot, is_this, MemberPlace}
+use Rattle.rhai_grammar.specs.Prelude.{may_be_value, KeyRole, FieldsEnd, AKey, NoKey, LinkSpot, is_this, MemberRole}
 use Rattle.rhai_grammar.specs.Prelude.{AMember, NoMember, excludes_use, Follower, Operator, Unknown, Other}
 use Rattle.rhai_grammar.specs.Prelude.{may_be_closure, Comment, Collected, in_function, Use, is_captured, Library}
 use Rattle.rhai_grammar.specs.Prelude.{is_function, noted, number, with_ended}
 use Rattle.rhai_grammar.specs.declared.role.Construct.{Construct as Kind}
 use Rattle.rhai_grammar.specs.declared.role.AfterStatement.{AfterStatement}
 use Rattle.rhai_grammar.specs.declared.role.Closing.{Closing}
-use Rattle.rhai_grammar.specs.declared.role.StatementPlace.{StatementPlace}
+use Rattle.rhai_grammar.specs.declared.role.StatementRole.{StatementRole}
 use Rattle.rhai_grammar.specs.declared.list.AfterPart.{AfterPart}
 use Rattle.rhai_grammar.specs.declared.list.CommaList.{CommaList}
-use Rattle.rhai_grammar.specs.declared.role.ArmPlace.{ArmPlace}
+use Rattle.rhai_grammar.specs.declared.role.ArmRole.{ArmRole}
 use Rattle.rhai_grammar.specs.declared.role.Bars.{Bars}
 use Rattle.rhai_grammar.specs.declared.role.Beginning.{Beginning}
 use Rattle.rhai_grammar.specs.declared.role.Calling.{Calling}
-use Rattle.rhai_grammar.specs.declared.role.ItemPlace.{ItemPlace}
+use Rattle.rhai_grammar.specs.declared.role.ItemRole.{ItemRole}
 use Rattle.rhai_grammar.specs.declared.role.Linking.{Linking}
 use Rattle.rhai_grammar.specs.declared.role.OperandStart.{OperandStart}
 use Rattle.rhai_grammar.specs.declared.role.StatementStart.{StatementStart}
+use Rattle.rhai_grammar.specs.Strengths.{continues}
 use Rattle.rhai_reading.specs.Reading as R
 use Rattle.rhai_reading.specs.Reading.{Goal, Val}
-use Rattle.rhai_productions.specs.Schema.{Production, view, name}
-use Rattle.rhai_productions.specs.Rules as P
-use Rattle.rhai_productions.specs.Rules.{production}
-use Rattle.rhai_productions.specs.Derived as D
-use Rattle.rhai_productions.specs.Derived.{given, take, this, if_so, if_not, choose, here, must, knows, adds, uses}
-use Rattle.rhai_productions.specs.Derived.{captures, part, literal, apart, in_text, form}
-use Rattle.rhai_productions.specs.Events as F
-use Rattle.rhai_productions.specs.Events.{Event, Used, HasEnded, ends_only}
+use Rattle.rhai_grammar.specs.Productions.{Production, view, name}
+use Rattle.rhai_grammar.specs.Rules as P
+use Rattle.rhai_grammar.specs.Rules.{production}
+use Rattle.rhai_grammar.specs.Forms as D
+use Rattle.rhai_grammar.specs.Forms.{given, take, this, if_so, if_not, choose, here, must, knows, adds, uses}
+use Rattle.rhai_grammar.specs.Forms.{captures, part, literal, apart, in_text, form}
+use Rattle.rhai_grammar.specs.Events as F
+use Rattle.rhai_grammar.specs.Events.{Event, Used, HasEnded, ends_only}
 use Rattle.rhai_productions.specs.Quiet.{Quiet, Outside, Off, NothingIsCaptured}
 use Rattle.rhai_productions.proofs.Passing.{library_after, captured_after, captured_on, captured_ends, captured_is}
 use Rattle.rhai_productions.proofs.Passing.{leaves_its}
@@ -166,7 +167,7 @@ called c w name q calls_by.List o = λ l at. (o, λ ns. tt)
 called c w name q calls_by.Nothing o = tt
 called c w name q calls_by.Bang o = λ l at v. bang c w name v o
 
-dotted : (w : Live) (spot : LinkSpot) (l : Lexeme) (at : Position) (v : MemberPlace) → Off spot.settings
+dotted : (w : Live) (spot : LinkSpot) (l : Lexeme) (at : Position) (v : MemberRole) → Off spot.settings
     → Quiet Outside (P.dotted_by w spot l at v)
 dotted w spot l at AMember o = (o, λ x. ((o, o), λ ls. tt))
 dotted w spot l at (NoMember why) o = tt
@@ -183,13 +184,13 @@ parted parts on end after.Comma g h = λ l at. g
 parted parts on end after.Close g h = λ l at. h
 parted parts on end after.Nothing g h = tt
 
-element : (c : Context) (w : Live) (opening : Position) (before : Nodes) (v : ItemPlace) → Off c → Quiet Outside
+element : (c : Context) (w : Live) (opening : Position) (before : Nodes) (v : ItemRole) → Off c → Quiet Outside
     (P.element_by c w opening before v)
 element c w opening before place.End o = λ l at. tt
 element c w opening before place.Item o = (o, λ x v. parted lists.Array _ _ v (o, λ ns. tt) tt)
 element c w opening before place.Nothing o = tt
 
-key : (c : Context) (before : Properties) (v : KeyPlace) → Quiet Outside (P.key_by c before v)
+key : (c : Context) (before : Properties) (v : KeyRole) → Quiet Outside (P.key_by c before v)
 key c before FieldsEnd = λ l at. tt
 key c before (AKey k) = λ l at m p. (tt, tt)
 key c before (NoKey why) = tt
@@ -208,7 +209,7 @@ binary : (c : Context) (w : Live) (at : Position) (parent : ℕ) (lhs : Node) (v
     → Quiet Outside (P.binary_of c w at parent lhs v)
 binary c w at parent lhs None o = tt
 binary c w at parent lhs (Some op) o =
-    by_either (R.continues parent op.0 op.1) _ _ (λ l pos. (o, λ y. (tt, λ next. (o, λ r. (o, λ x. tt))))) tt
+    by_either (continues parent op.0 op.1) _ _ (λ l pos. (o, λ y. (tt, λ next. (o, λ r. (o, λ x. tt))))) tt
 
 export : (c : Context) (w : Live) (at : Position) (v : Option Bool) → Off c → Quiet Outside (P.export_by c w at v)
 export c w at (Some constant) o = λ l pos. (o, λ f. tt)
@@ -247,7 +248,7 @@ after_one : (closing : Closing) (c : Context) (w : Live) (fs : node.Statements) 
 after_one closing c w fs true o = (o, λ r. tt)
 after_one closing c w fs false o = λ v. separated closing c w fs v o
 
-statements : (closing : Closing) (c : Context) (w : Live) (fs : node.Statements) (v : StatementPlace) → Off c
+statements : (closing : Closing) (c : Context) (w : Live) (fs : node.Statements) (v : StatementRole) → Off c
     → Quiet Outside (P.statements closing c w fs v)
 statements closing c w fs stands.Close o = tt
 statements closing c w fs stands.Statement o = (o, λ f. after_one closing c f.1 (with_kept fs f.0) (ends_itself f.0) o)
@@ -261,7 +262,7 @@ do_end_quiet : (v : Option Bool) → Quiet Outside (P.do_end_by v)
 do_end_quiet None = tt
 do_end_quiet (Some b) = λ l at. tt
 
-arms : (c : Context) (w : Live) (before : Collected) (v : ArmPlace) → Off c → Quiet Outside (P.arms_by c w before v)
+arms : (c : Context) (w : Live) (before : Collected) (v : ArmRole) → Off c → Quiet Outside (P.arms_by c w before v)
 arms c w before arm.Case o = (o, λ a. (o, λ r. tt))
 arms c w before arm.Default o = λ l at. (o, λ x. tt)
 arms c w before arm.Close o = λ l at. tt
@@ -276,7 +277,7 @@ arm_end itself after.Comma = λ l at. tt
 arm_end itself after.Close = tt
 arm_end itself after.Nothing = by_either itself _ _ tt tt
 
-default_end : (default : Position) (v : ArmPlace) → Quiet Outside (P.default_end_by default v)
+default_end : (default : Position) (v : ArmRole) → Quiet Outside (P.default_end_by default v)
 default_end default arm.Close = λ l at. tt
 default_end default arm.Nothing = tt
 default_end default _ = tt
@@ -287,7 +288,7 @@ parameters f calls_by.List = λ l at. (tt, λ r. tt)
 parameters f calls_by.Bang = tt
 parameters f calls_by.Nothing = tt
 
-parameter : (parts : CommaList) (f : Text) (before : List Text) (v : ItemPlace) → Quiet Outside
+parameter : (parts : CommaList) (f : Text) (before : List Text) (v : ItemRole) → Quiet Outside
     (P.parameter_by parts f before v)
 parameter parts f before place.End = λ l at. tt
 parameter parts f before place.Item = λ l at v. parted parts _ _ v (tt, λ r. tt) tt

@@ -5,14 +5,13 @@ use Rattle.std.specs.Prelude.{◌⊎◌}
 use Rattle.rhai_grammar.specs.Prelude.{Mode, code, text, Taken, Point, Use, Ended, Library, Refusal, Demands, Nothing}
 use Rattle.rhai_grammar.specs.Prelude.{Missed, with_ended, past, next_at, adding, capturing, with_captured}
 use Rattle.rhai_grammar.specs.Delivered as M
-use Rattle.rhai_grammar.specs.UsesOfForms.{HoldsFirst}
+use Rattle.rhai_grammar.specs.Events.{HoldsFirst, Event, Used, HasEnded, ended_in, ends_only}
 use Rattle.rhai_reading.specs.Reading.{Goal, Val}
-use Rattle.rhai_productions.specs.Schema.{Production}
-use Rattle.rhai_productions.specs.Derived as F
-use Rattle.rhai_productions.specs.Derived.{given, take, this, if_so, if_not, choose, here, must, knows, adds, uses}
-use Rattle.rhai_productions.specs.Derived.{captures, part, literal, apart, in_text, form}
-use Rattle.rhai_productions.specs.Events as D
-use Rattle.rhai_productions.specs.Events.{Event, Used, HasEnded, ended_in, ends_only}
+use Rattle.rhai_grammar.specs.Productions.{Production}
+use Rattle.rhai_grammar.specs.Forms as F
+use Rattle.rhai_grammar.specs.Forms.{given, take, this, if_so, if_not, choose, here, must, knows, adds, uses}
+use Rattle.rhai_grammar.specs.Forms.{captures, part, literal, apart, in_text, form}
+use Rattle.rhai_grammar.specs.Events as D
 use Rattle.rhai_productions.specs.EventLaws as law
 use Rattle.rhai_productions.proofs.Passing.{leaves_its, library_after, library_on, library_ends, library_is, passes}
 use Rattle.rhai_productions.proofs.Passing.{Passed}
@@ -22,7 +21,7 @@ ended_on [] b = refl
 ended_on (Used free u ∷ a) b = ended_on a b
 ended_on (HasEnded x ∷ a) b = ap (λ xs. x ∷ xs) (ended_on a b)
 
-ended_only : (a : List Event) → ended_in (ends_only a) ≡ ended_in a
+pub ended_only : (a : List Event) → ended_in (ends_only a) ≡ ended_in a
 ended_only [] = refl
 ended_only (Used free u ∷ a) = ended_only a
 ended_only (HasEnded x ∷ a) = ap (λ xs. x ∷ xs) (ended_only a)

@@ -2,20 +2,21 @@
 use Rattle.std.proofs.Common.{◌≡◌, ℕ, zero, suc, ◌≤◌, arith, Bool, true, false, Option, Some, None, refl, sym, ap, ◌∙◌}
 use Rattle.std.proofs.Common.{subst, if◌then◌else◌}
 use Rattle.rhai_grammar.specs.Prelude.{Lexeme, Position, Item, Point, past, code, is_memory, Context, Live, Node}
-use Rattle.rhai_grammar.specs.Prelude.{has_room, level_up, position_of, Demands, Met, verdict, Fine, Wrong, Otherwise}
+use Rattle.rhai_grammar.specs.Prelude.{may_raise, level_up, position_of, Demands, Met, verdict, Fine, Wrong, Otherwise}
 use Rattle.rhai_grammar.specs.Prelude.{Verdict, follower_of, Follower, Operator, Unknown, Other, operator_tree}
 use Rattle.rhai_grammar.specs.Causes as cause
 use Rattle.rhai_grammar.specs.Strengths.{is_operator, strength}
-use Rattle.rhai_grammar.specs.Verdicts.{operator_known, known_follower, run_ends, ended_follower, room_due}
+use Rattle.rhai_grammar.specs.Verdicts.{operator_known, known_follower, run_ends, ended_follower, raise_due}
 use Rattle.rhai_grammar.specs.declared.filter.ExprFilter.{ExprFilter}
+use Rattle.rhai_grammar.specs.Strengths.{continues}
 use Rattle.rhai_reading.specs.Reading as R
 use Rattle.rhai_reading.specs.Reading.{BinaryOp, NextOperator}
 use Rattle.rhai_reading.proofs.Looks.{op_at, operator_in, fine}
 use Rattle.rhai_reading.proofs.Strengths.{Sensible, sensible, next_continues, right_is, left_is, outer, goes_operator}
 use Rattle.rhai_reading.proofs.Strengths.{true_not}
-use Rattle.rhai_productions.specs.Rules as P
-use Rattle.rhai_productions.specs.Rules.{production}
-use Rattle.rhai_productions.specs.Derived.{Form, Filled, form, given, this, choose, here, must, part, demands, demanded}
+use Rattle.rhai_grammar.specs.Rules as P
+use Rattle.rhai_grammar.specs.Rules.{production}
+use Rattle.rhai_grammar.specs.Forms.{Form, Filled, form, given, this, choose, here, must, part, demands, demanded}
 use Rattle.rhai_productions.specs.Runs.{Run, just, binary, run_demands, Side, Outermost, RightOf, left_fits, side_fits}
 use Rattle.rhai_productions.specs.Runs.{ExpressionsAreRuns}
 use Rattle.rhai_productions.proofs.Fronts.{front}
@@ -53,9 +54,9 @@ known {filter = filter} {v = v} (form (choose l at f)) k s t m =
 
 -- the operator, if there is one
 op_is : (fo : Follower) (op : ℕ × Bool) → Some op ≡ operator_in fo
-    → (is_operator fo ≡ true) × (strength fo ≡ op.0) × ((p : ℕ) → next_continues p fo ≡ R.continues p op.0 op.1)
+    → (is_operator fo ≡ true) × (strength fo ≡ op.0) × ((p : ℕ) → next_continues p fo ≡ continues p op.0 op.1)
 op_is (Operator n right) op e = let d : (n, right) ≡ op = cc in
-    (refl, ap (λ o. o.0) d, λ p. ap (λ o. R.continues p o.0 o.1) d)
+    (refl, ap (λ o. o.0) d, λ p. ap (λ o. continues p o.0 o.1) d)
 op_is (Unknown t) op e = absurd cc
 op_is Other op e = absurd cc
 
@@ -147,9 +148,9 @@ climbed_end c w at parent lhs x given filter k s t is fits m first begins side t
 }
 
 climbed_by : (i : ℕ) → Law i → (c : Context) (w : Live) (at : Position) (parent : ℕ) (lhs x : Node) (o : ℕ × Bool)
-    (b : Bool) → R.continues parent o.0 o.1 ≡ b
+    (b : Bool) → continues parent o.0 o.1 ≡ b
     → (f : Filled production (BinaryOp c w at parent lhs)
-    (if b then P.binary_on c w at parent lhs o else Rattle.rhai_productions.specs.Schema.give lhs) x)
+    (if b then P.binary_on c w at parent lhs o else Rattle.rhai_grammar.specs.Productions.give lhs) x)
     → height_in production f ≤ i → (filter : ExprFilter) → c.filter ≡ filter → (k : Demands) (s t : Point)
     → Some o ≡ operator_in (follower_of filter (op_at s)) → verdict (operator_known filter) (op_at s) ≡ Fine
     → Met (demanded production f k) s t
@@ -203,7 +204,7 @@ climbed_of i law c w at parent lhs x None f le filter same k s t is fits m first
     climbed_end c w at parent lhs x f filter k s t is fits m first begins side top L from passes
 climbed_of i law c w at parent lhs x (Some op) f le filter same k s t is fits m first begins side top L suits ended
     from passes =
-    climbed_by i law c w at parent lhs x op (R.continues parent op.0 op.1) refl f le filter same k s t is fits m first
+    climbed_by i law c w at parent lhs x op (continues parent op.0 op.1) refl f le filter same k s t is fits m first
     begins side top L suits ended from
     passes
 
@@ -229,7 +230,7 @@ ends Other off h k = refl
 pub expressions_are_runs : ExpressionsAreRuns
 expressions_are_runs c w x (form (here l at (must (part y fy (part z fz given))))) k s t m =
     let reads = (fine (λ l. Fine) (op_at s) m.0).0 in
-    let room : has_room c ≡ true = m.1.1.0 in
+    let room : may_raise c ≡ true = m.1.1.0 in
     let a = front production fy _ s t m.1.1.1 in
     let r = climbed (height production fz) (level_up c) w (position_of y) 1 y x fz (omega arith) c.filter refl k a.end
     t a.met (level_up c) (level_up c) Outermost None (just fy) (outer_suits c.filter)
@@ -241,7 +242,7 @@ expressions_are_runs c w x (form (here l at (must (part y fy (part z fz given)))
       top = r.top;
       run = r.run;
       met = (
-        judged (room_due c) s reads (ap (λ b. if b then Fine else Wrong cause.ExprTooDeep) room),
+        judged (raise_due c) s reads (ap (λ b. if b then Fine else Wrong cause.ExprTooDeep) room),
         r.passes _ t (
           judged (run_ends c.filter) r.end f.0 (ends (follower_of c.filter (op_at r.end)) r.stops
               (sensible c.filter (op_at r.end)) f.1),

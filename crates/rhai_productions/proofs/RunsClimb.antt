@@ -1,20 +1,21 @@
 -- A run as the strengths say is read operator by operator.
 use Rattle.std.proofs.Common.{◌≡◌, ℕ, Bool, true, false, Option, Some, None, refl, sym, ap, ◌∙◌, subst, if◌then◌else◌}
-use Rattle.rhai_grammar.specs.Prelude.{Lexeme, Position, Item, Point, past, code, Context, Live, Node, has_room}
+use Rattle.rhai_grammar.specs.Prelude.{Lexeme, Position, Item, Point, past, code, Context, Live, Node, may_raise}
 use Rattle.rhai_grammar.specs.Prelude.{position_of, Demands, ◌▸◌, Test, Next, Met, verdict, Fine, follower_of, Follower}
 use Rattle.rhai_grammar.specs.Prelude.{Operator, Unknown, Other, boolean_holds, mismatched}
 use Rattle.rhai_grammar.specs.Causes as cause
 use Rattle.rhai_grammar.specs.Strengths.{is_operator, strength, is_right, left_of}
-use Rattle.rhai_grammar.specs.Verdicts.{operator_known, known_follower, run_ends, ended_follower, room_due}
+use Rattle.rhai_grammar.specs.Verdicts.{operator_known, known_follower, run_ends, ended_follower, raise_due}
 use Rattle.rhai_grammar.specs.declared.filter.ExprFilter.{ExprFilter}
+use Rattle.rhai_grammar.specs.Strengths.{continues}
 use Rattle.rhai_reading.specs.Reading as R
 use Rattle.rhai_reading.specs.Reading.{BinaryOp, NextOperator}
 use Rattle.rhai_reading.proofs.Looks.{op_at, pos_at, operator_in, fine, or_wrong}
 use Rattle.rhai_reading.proofs.Strengths.{sensible, next_continues, right_is, left_is, left_down, outer, not_true}
-use Rattle.rhai_productions.specs.Rules as P
-use Rattle.rhai_productions.specs.Rules.{production}
-use Rattle.rhai_productions.specs.Schema as S
-use Rattle.rhai_productions.specs.Derived.{Form, Filled, form, given, this, choose, here, must, part, demands, demanded}
+use Rattle.rhai_grammar.specs.Rules as P
+use Rattle.rhai_grammar.specs.Rules.{production}
+use Rattle.rhai_grammar.specs.Productions as S
+use Rattle.rhai_grammar.specs.Forms.{Form, Filled, form, given, this, choose, here, must, part, demands, demanded}
 use Rattle.rhai_productions.specs.Runs.{Run, just, binary, run_demands, Side, Outermost, RightOf, First, first_demands}
 use Rattle.rhai_productions.specs.Runs.{raise_after, left_fits, side_fits, RunsAreExpressions}
 use Rattle.rhai_productions.proofs.Fronts.{front, Front}
@@ -96,7 +97,7 @@ end_by : (c : Context) (w : Live) (at : Position) (parent : ℕ) (lhs : Node) (f
     → next_continues parent fo ≡ false
     → FitsHere (λ (f : Filled production (BinaryOp c w at parent lhs) (P.binary_of c w at parent lhs (operator_in fo))
     lhs) k. demanded production f k) s
-end_by c w at parent lhs (Operator n right) s e = end_if c w at parent lhs (n, right) (R.continues parent n right) s e
+end_by c w at parent lhs (Operator n right) s e = end_if c w at parent lhs (n, right) (continues parent n right) s e
 end_by c w at parent lhs (Unknown t) s e = record { it = given; fits = λ k t m. m }
 end_by c w at parent lhs Other s e = record { it = given; fits = λ k t m. m }
 
@@ -129,7 +130,7 @@ on_by : (c : Context) (w : Live) (at : Position) (parent : ℕ) (lhs z : Node) (
     → (g : Filled production (BinaryOp c w at parent lhs) (P.binary_of c w at parent lhs (operator_in fo)) z)
     × ((k : Demands) (t : Point) → Met (demanded production f k) s t → Met (demanded production g k) s t)
 on_by c w at parent lhs z (Operator n right) s is e f =
-    on_if c w at parent lhs z (n, right) (R.continues parent n right) s e f
+    on_if c w at parent lhs z (n, right) (continues parent n right) s e f
 on_by c w at parent lhs z (Unknown t) s is e f = absurd cc
 on_by c w at parent lhs z Other s is e f = absurd cc
 
@@ -268,8 +269,8 @@ begins {filter = filter} {w = w} {side = side} (binary {c = c} {d = d} {p = p} {
 
 pub runs_are_expressions : RunsAreExpressions
 runs_are_expressions c after w at top x f k s t m =
-    let room = or_wrong (has_room c) cause.ExprTooDeep (fine (room_due c) (op_at s) m.0).1 in
-    let reads = (fine (room_due c) (op_at s) m.0).0 in
+    let room = or_wrong (may_raise c) cause.ExprTooDeep (fine (raise_due c) (op_at s) m.0).1 in
+    let reads = (fine (raise_due c) (op_at s) m.0).0 in
     let a = begins f refl _ s t m.1 in
     let fa : after.filter ≡ c.filter = filter_after f refl in
     let ended = (fine (run_ends c.filter) (op_at a.end) a.met.0).1 in

@@ -1,6 +1,6 @@
 -- Each production is read as the reading program says: the table.
 use Rattle.std.proofs.Common.{◌≡◌, Bool, true, false, Option, Some, None, List, [], ◌∷◌, refl, if◌then◌else◌}
-use Rattle.rhai_grammar.specs.Statements.{statement_place}
+use Rattle.rhai_grammar.specs.Statements.{statement_role}
 use Rattle.rhai_grammar.specs.Verdicts.{next_key}
 use Rattle.rhai_grammar.specs.Causes as cause
 use Rattle.rhai_grammar.specs.declared.due.DueToken.TheVariants as due_token
@@ -8,18 +8,20 @@ use Rattle.rhai_grammar.specs.declared.list.CommaList.TheVariants as lists
 use Rattle.rhai_grammar.specs.declared.role.StatementStart.TheVariants as start
 use Rattle.rhai_grammar.specs.Prelude.{Lexeme, Position, refusal, Context, Live, text_of, is_due, is_global, is_name}
 use Rattle.rhai_grammar.specs.Prelude.{no_variable, has_single_blocks, after_part, node_count, Comment, beginning}
-use Rattle.rhai_grammar.specs.Prelude.{calling, linking, follower_of, defines, arm_place, parameter_place, item_place}
+use Rattle.rhai_grammar.specs.Prelude.{calling, linking, follower_of, defines, arm_role, parameter_role, item_role}
 use Rattle.rhai_grammar.specs.Prelude.{operand_start, statement_start, do_end}
 use Rattle.rhai_grammar.specs.declared.role.StatementStart.{StatementStart}
+use Rattle.rhai_grammar.specs.Comments.{comment_of}
 use Rattle.rhai_reading.specs.Reading as R
 use Rattle.rhai_reading.specs.Reading.{Goal, Val, Prog, Ret, Fail, Peek, Take, Call, Know, body}
 use Rattle.rhai_reading.specs.Moves.{Moves}
 use Rattle.rhai_productions.specs.Agreement.{looks_twice, Agrees}
-use Rattle.rhai_productions.specs.Schema as S
-use Rattle.rhai_productions.specs.Schema.{Production, give, never, this, choose, if_next, must, knows, adds, due}
-use Rattle.rhai_productions.specs.Schema.{faultless, unless, run, run_from, stop, name}
-use Rattle.rhai_productions.specs.Rules as P
-use Rattle.rhai_productions.specs.Rules.{production}
+use Rattle.rhai_grammar.specs.Productions as S
+use Rattle.rhai_grammar.specs.Productions.{Production, give, never, this, choose, if_next, must, knows, adds, due}
+use Rattle.rhai_grammar.specs.Productions.{faultless, unless, stop, name}
+use Rattle.rhai_productions.specs.Readers.{run, run_from}
+use Rattle.rhai_grammar.specs.Rules as P
+use Rattle.rhai_grammar.specs.Rules.{production}
 use Rattle.rhai_productions.proofs.Looked.{Lawful, AgreesAt, equal, equal_at, at_once, look, again, taken, part_so}
 use Rattle.rhai_productions.proofs.Looked.{or_else, test, both}
 use Rattle.rhai_productions.proofs.SameOperands.{same_items, same_element, same_key, same_field, same_called}
@@ -48,7 +50,7 @@ equally (R.Postfix c w x) once = same_postfix c w x
 equally (R.Arguments c w at) once = refl
 equally (R.Items c w before) once = same_items c w before
 equally (R.Elements c w opening before) once = λ i. Peek (λ l at.
-    same_element c w opening before l at (item_place c.sizes.array (node_count before) l) i)
+    same_element c w opening before l at (item_role c.sizes.array (node_count before) l) i)
 equally (R.Fields c w opening before) once = λ i. Call (R.NextKey c before) (λ v. same_field c w opening before v i)
 equally (R.Segments c w start before) once = same_segments c w start before
 equally R.TextAfter once = refl
@@ -66,7 +68,7 @@ equally (R.Export c w at) once = absurd cc
 equally R.Alias once = refl
 equally (R.Statement c w) once = absurd cc
 equally (R.Statements closing c w before) once = λ i. Peek (λ l at.
-    same_statements closing c w before l at (statement_place closing l) i)
+    same_statements closing c w before l at (statement_role closing l) i)
 equally R.BlockStart once = absurd cc
 equally (R.Inside c w) once = same_inside c w (has_single_blocks c)
 equally (R.Block c w at) once = refl
@@ -80,7 +82,7 @@ equally (R.Branch c w at) once = refl
 equally R.LoopNames once = absurd cc
 equally R.Catch once = refl
 equally R.DoEnd once = λ i. Peek (λ l at. same_do_end (do_end l) l at i)
-equally (R.Arms c w before) once = λ i. Peek (λ l at. same_arms c w before l at (arm_place l) i)
+equally (R.Arms c w before) once = λ i. Peek (λ l at. same_arms c w before l at (arm_role l) i)
 equally (R.Arm c w before) once = same_arm c w before
 equally (R.DefaultArm c w default) once = absurd cc
 equally (R.Cases c w before) once = refl
@@ -88,14 +90,14 @@ equally (R.Case c w) once = refl
 equally (R.CaseGuard c w) once = refl
 equally (R.Action c w) once = same_action c w (has_single_blocks c)
 equally (R.ArmEnd itself) once = λ i. Peek (λ l at. same_arm_end itself l at (after_part lists.Arms l) i)
-equally (R.DefaultEnd default) once = λ i. Peek (λ l at. same_default_end default l at (arm_place l) i)
+equally (R.DefaultEnd default) once = λ i. Peek (λ l at. same_default_end default l at (arm_role l) i)
 equally (R.Comments before) once = refl
 equally (R.FunctionStatement c w comments first at is_private) once = refl
 equally (R.Function c comments at is_private) once = refl
 equally R.FunctionHead once = same_head
 equally (R.ParameterList function) once = λ i. Peek (λ l at. same_parameters function l at (calling l) i)
 equally (R.Parameters parts function before) once = λ i. Peek (λ l at.
-    same_parameter parts function before l at (parameter_place parts l) i)
+    same_parameter parts function before l at (parameter_role parts l) i)
 equally (R.Closure c w at by) once = same_closure c w at by
 equally (R.ClosureBody c w) once = refl
 
@@ -144,8 +146,8 @@ module _ {Z : Type 0} (m : Moves Z) (law : Lawful m) where
       → AgreesAt m law l at (run_from (P.statement_by c w v) (Some (l, at))) (R.statement_at c w at v)
   same_statement c w l at start.Private = at_once m law (same_private c w [] at)
   same_statement c w l at start.Comment =
-      again m law (λ k p. Take (R.documented c w (R.comment_of k p)))
-      (at_once m law (taken m law (same_comment c w (R.comment_of l at))))
+      again m law (λ k p. Take (R.documented c w (comment_of k p)))
+      (at_once m law (taken m law (same_comment c w (comment_of l at))))
   same_statement c w l at _ = equal_at m law refl
 
   same_default : (c : Context) (w : Live) (default : Position) (l : Lexeme) (at : Position)

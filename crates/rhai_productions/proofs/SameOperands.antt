@@ -8,33 +8,35 @@ use Rattle.rhai_grammar.specs.declared.list.AfterPart.TheVariants as after
 use Rattle.rhai_grammar.specs.declared.list.CommaList.TheVariants as lists
 use Rattle.rhai_grammar.specs.declared.role.Beginning.TheVariants as begin
 use Rattle.rhai_grammar.specs.declared.role.Calling.TheVariants as calls_by
-use Rattle.rhai_grammar.specs.declared.role.ItemPlace.TheVariants as place
+use Rattle.rhai_grammar.specs.declared.role.ItemRole.TheVariants as place
 use Rattle.rhai_grammar.specs.declared.role.Linking.TheVariants as link
 use Rattle.rhai_grammar.specs.declared.role.OperandStart.TheVariants as first
 use Rattle.rhai_grammar.specs.Prelude.{Lexeme, Position, Refusal, refusal, Context, Live, Text, text_of, Node, is_name}
 use Rattle.rhai_grammar.specs.Prelude.{with_node, braces, Nodes, Properties, property, this as this_node, with_property}
 use Rattle.rhai_grammar.specs.Prelude.{position_of, block_value, is_in_function, may_be_value, is_qualified}
-use Rattle.rhai_grammar.specs.Prelude.{module_fault, after_part, is_close, KeyPlace, FieldsEnd, AKey, NoKey, has_key}
+use Rattle.rhai_grammar.specs.Prelude.{module_fault, after_part, is_close, KeyRole, FieldsEnd, AKey, NoKey, has_key}
 use Rattle.rhai_grammar.specs.Prelude.{LinkSpot, spot_after_operand, chained, index_refusal, last_fault, calls}
-use Rattle.rhai_grammar.specs.Prelude.{may_be_called, is_this, MemberPlace, AMember, NoMember, qualifies, added_text}
+use Rattle.rhai_grammar.specs.Prelude.{may_be_called, is_this, MemberRole, AMember, NoMember, qualifies, added_text}
 use Rattle.rhai_grammar.specs.Prelude.{Follower, Operator, Unknown, Other, variable_of, is_variable, call_tree}
-use Rattle.rhai_grammar.specs.Prelude.{method_tree, may_be_closure, calling, member_place}
+use Rattle.rhai_grammar.specs.Prelude.{method_tree, may_be_closure, calling, member_role}
 use Rattle.rhai_grammar.specs.declared.list.AfterPart.{AfterPart}
 use Rattle.rhai_grammar.specs.Verdicts.{no_path}
 use Rattle.rhai_grammar.specs.declared.list.CommaList.{CommaList}
 use Rattle.rhai_grammar.specs.declared.role.Beginning.{Beginning}
 use Rattle.rhai_grammar.specs.declared.role.Calling.{Calling}
-use Rattle.rhai_grammar.specs.declared.role.ItemPlace.{ItemPlace}
+use Rattle.rhai_grammar.specs.declared.role.ItemRole.{ItemRole}
 use Rattle.rhai_grammar.specs.declared.role.Linking.{Linking}
 use Rattle.rhai_grammar.specs.declared.role.OperandStart.{OperandStart}
 use Rattle.rhai_grammar.specs.Beginnings.{is_list}
+use Rattle.rhai_grammar.specs.Strengths.{continues}
 use Rattle.rhai_reading.specs.Reading as R
 use Rattle.rhai_reading.specs.Reading.{Goal, Val, Prog, Ret, Fail, Peek, Take, Call, Know, body}
-use Rattle.rhai_productions.specs.Schema as S
-use Rattle.rhai_productions.specs.Schema.{Production, give, never, this, choose, if_next, must, knows, adds, due}
-use Rattle.rhai_productions.specs.Schema.{faultless, unless, run, run_from, stop, name}
-use Rattle.rhai_productions.specs.Rules as P
-use Rattle.rhai_productions.specs.Rules.{production}
+use Rattle.rhai_grammar.specs.Productions as S
+use Rattle.rhai_grammar.specs.Productions.{Production, give, never, this, choose, if_next, must, knows, adds, due}
+use Rattle.rhai_grammar.specs.Productions.{faultless, unless, stop, name}
+use Rattle.rhai_productions.specs.Readers.{run, run_from}
+use Rattle.rhai_grammar.specs.Rules as P
+use Rattle.rhai_grammar.specs.Rules.{production}
 
 -- a branch is read as each of its sides is
 pub by_cases : {A : Type 0} (b : Bool) (p q : Production A) (s : Option (Lexeme × Position))
@@ -63,7 +65,7 @@ same_items c w before = λ i. Call (R.Expression c w) (λ x. Peek (λ l at.
     (give (with_node before x)) l at (after_part lists.Arguments l) i))
 
 pub same_element : (c : Context) (w : Live) (opening : Position) (before : Nodes) (l : Lexeme) (at : Position)
-    (v : ItemPlace) → run_from (P.element_by c w opening before v) (Some (l, at)) ≡ R.element_at c w opening before l
+    (v : ItemRole) → run_from (P.element_by c w opening before v) (Some (l, at)) ≡ R.element_at c w opening before l
     at v
 same_element c w opening before l at place.End = refl
 same_element c w opening before l at place.Item = λ i.
@@ -72,7 +74,7 @@ same_element c w opening before l at place.Item = λ i.
     (after_part lists.Array m) i)))
 same_element c w opening before l at place.Nothing = refl
 
-pub same_key : (c : Context) (before : Properties) (l : Lexeme) (at : Position) (v : KeyPlace)
+pub same_key : (c : Context) (before : Properties) (l : Lexeme) (at : Position) (v : KeyRole)
     → run_from (P.key_by c before v) (Some (l, at)) ≡ R.key_on c before at v
 same_key c before l at FieldsEnd = refl
 same_key c before l at (AKey key) = λ i. Take (turned (has_key key before) (R.match_token due_token.Colon (Peek (
@@ -117,14 +119,14 @@ same_postfix c w x = λ i. Peek (λ l at. if is_variable x && qualifies l
     then Call (R.Path w x) (λ y. Peek (λ m p. same_call_of c w y m p i)) else same_call_of c w x l at i)
 
 pub same_dotted : (w : Live) (spot : LinkSpot) (l : Lexeme) (at : Position) (m : Lexeme) (p : Position)
-    (v : MemberPlace) → run_from (P.dotted_by w spot l at v) (Some (m, p)) ≡ R.dot_at w spot l at p v
+    (v : MemberRole) → run_from (P.dotted_by w spot l at v) (Some (m, p)) ≡ R.dot_at w spot l at p v
 same_dotted w spot l at m p AMember = refl
 same_dotted w spot l at m p (NoMember why) = refl
 
 pub same_links : (w : Live) (spot : LinkSpot) (l : Lexeme) (at : Position) (v : Linking)
     → run_from (P.links_by w spot v) (Some (l, at)) ≡ R.links_at w spot l at v
 same_links w spot l at link.Bracket = refl
-same_links w spot l at link.Dot = λ i. Take (Peek (λ m p. same_dotted w spot l at m p (member_place m) i))
+same_links w spot l at link.Dot = λ i. Take (Peek (λ m p. same_dotted w spot l at m p (member_role m) i))
 same_links w spot l at link.Nothing = none (last_fault spot.before)
   where
     none : (f : Option Refusal) → run_from (P.tested spot.before f) (Some (l, at)) ≡ R.tested spot.before f
@@ -192,4 +194,4 @@ same_follower at l Other = refl
 pub same_binary : (c : Context) (w : Live) (at : Position) (parent : ℕ) (lhs : Node) (v : Option (ℕ × Bool))
     → run (P.binary_of c w at parent lhs v) ≡ R.binary_at c w at parent lhs v
 same_binary c w at parent lhs None = refl
-same_binary c w at parent lhs (Some op) = by_cases (R.continues parent op.0 op.1) _ _ None
+same_binary c w at parent lhs (Some op) = by_cases (continues parent op.0 op.1) _ _ None

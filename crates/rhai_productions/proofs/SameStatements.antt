@@ -6,39 +6,40 @@ use Rattle.rhai_grammar.specs.Causes as cause
 use Rattle.rhai_grammar.specs.declared.due.DueToken.TheVariants as due_token
 use Rattle.rhai_grammar.specs.declared.role.Construct.TheVariants as kind
 use Rattle.rhai_grammar.specs.declared.role.AfterStatement.TheVariants as ends
-use Rattle.rhai_grammar.specs.declared.role.StatementPlace.TheVariants as stands
+use Rattle.rhai_grammar.specs.declared.role.StatementRole.TheVariants as stands
 use Rattle.rhai_grammar.specs.declared.list.AfterPart.TheVariants as after
 use Rattle.rhai_grammar.specs.declared.list.CommaList.TheVariants as lists
-use Rattle.rhai_grammar.specs.declared.role.ArmPlace.TheVariants as arm
+use Rattle.rhai_grammar.specs.declared.role.ArmRole.TheVariants as arm
 use Rattle.rhai_grammar.specs.declared.role.Bars.TheVariants as bars
 use Rattle.rhai_grammar.specs.declared.role.Calling.TheVariants as calls_by
-use Rattle.rhai_grammar.specs.declared.role.ItemPlace.TheVariants as place
+use Rattle.rhai_grammar.specs.declared.role.ItemRole.TheVariants as place
 use Rattle.rhai_grammar.specs.Prelude.{Lexeme, Position, Refusal, refusal, Context, Live, Text, text_of, Node, is_due}
 use Rattle.rhai_grammar.specs.Prelude.{is_assignment, expression, made_block, absent, assignment, target_fault}
 use Rattle.rhai_grammar.specs.Prelude.{is_constant_use, is_name, same_text, guard_expected, no_assignment, guard_fault}
 use Rattle.rhai_grammar.specs.Prelude.{iterated_fault, ends_itself, with_kept, Nodes, no_nodes, present, after_part}
 use Rattle.rhai_grammar.specs.Prelude.{starts, arm_fault, Collected, duplicate_of, is_new, is_type, may_begin}
 use Rattle.rhai_grammar.specs.Prelude.{no_function_name, parameters_live, is_among, Use, closure_node, ended_closure}
-use Rattle.rhai_grammar.specs.Prelude.{in_closure, is_captured, may_capture, not_due, has_room, level_up, closure_count}
+use Rattle.rhai_grammar.specs.Prelude.{in_closure, is_captured, may_capture, not_due, may_raise, level_up, closure_count}
 use Rattle.rhai_grammar.specs.Prelude.{token_after_statement}
 use Rattle.rhai_grammar.specs.Targets.{update_of}
 use Rattle.rhai_grammar.specs.declared.role.Construct.{Construct as Kind}
 use Rattle.rhai_grammar.specs.declared.role.AfterStatement.{AfterStatement}
 use Rattle.rhai_grammar.specs.declared.role.Closing.{Closing}
-use Rattle.rhai_grammar.specs.declared.role.StatementPlace.{StatementPlace}
+use Rattle.rhai_grammar.specs.declared.role.StatementRole.{StatementRole}
 use Rattle.rhai_grammar.specs.declared.list.AfterPart.{AfterPart}
 use Rattle.rhai_grammar.specs.declared.list.CommaList.{CommaList}
-use Rattle.rhai_grammar.specs.declared.role.ArmPlace.{ArmPlace}
+use Rattle.rhai_grammar.specs.declared.role.ArmRole.{ArmRole}
 use Rattle.rhai_grammar.specs.declared.role.Bars.{Bars}
 use Rattle.rhai_grammar.specs.declared.role.Calling.{Calling}
-use Rattle.rhai_grammar.specs.declared.role.ItemPlace.{ItemPlace}
+use Rattle.rhai_grammar.specs.declared.role.ItemRole.{ItemRole}
 use Rattle.rhai_reading.specs.Reading as R
 use Rattle.rhai_reading.specs.Reading.{Goal, Val, Prog, Ret, Fail, Peek, Take, Call, Know, body}
-use Rattle.rhai_productions.specs.Schema as S
-use Rattle.rhai_productions.specs.Schema.{Production, give, never, this, choose, if_next, must, knows, adds, due}
-use Rattle.rhai_productions.specs.Schema.{faultless, unless, run, run_from, stop, name}
-use Rattle.rhai_productions.specs.Rules as P
-use Rattle.rhai_productions.specs.Rules.{production}
+use Rattle.rhai_grammar.specs.Productions as S
+use Rattle.rhai_grammar.specs.Productions.{Production, give, never, this, choose, if_next, must, knows, adds, due}
+use Rattle.rhai_grammar.specs.Productions.{faultless, unless, stop, name}
+use Rattle.rhai_productions.specs.Readers.{run, run_from}
+use Rattle.rhai_grammar.specs.Rules as P
+use Rattle.rhai_grammar.specs.Rules.{production}
 use Rattle.rhai_productions.proofs.SameOperands.{by_cases, turned, same_tested, same_parted}
 
 -- the level is raised in either case
@@ -89,7 +90,7 @@ same_after_one closing c w fs false = λ i.
     Peek (λ l at. same_separated closing c w fs l at (token_after_statement closing l) i)
 
 pub same_statements : (closing : Closing) (c : Context) (w : Live) (fs : node.Statements) (l : Lexeme) (at : Position)
-    (v : StatementPlace) → run_from (P.statements closing c w fs v) (Some (l, at)) ≡ R.statements_at closing c w fs l
+    (v : StatementRole) → run_from (P.statements closing c w fs v) (Some (l, at)) ≡ R.statements_at closing c w fs l
     at v
 same_statements closing c w fs l at stands.Close = refl
 same_statements closing c w fs l at stands.Statement = λ i. Call (R.Statement c w) (λ f.
@@ -97,7 +98,7 @@ same_statements closing c w fs l at stands.Statement = λ i. Call (R.Statement c
 same_statements closing c w fs l at stands.Nothing = refl
 
 pub same_jump : (c : Context) (w : Live) (at : Position) → run (P.jump_of c w at) ≡ body (R.Jump c w at)
-same_jump c w at = λ i. Peek (λ l p. raised_both (starts c l) (has_room c)
+same_jump c w at = λ i. Peek (λ l p. raised_both (starts c l) (may_raise c)
     (Call (R.Expression (level_up c) w) (λ x. Ret (present x))) (Ret absent) (Fail (refusal cause.ExprTooDeep at)) i)
 
 pub same_evaluated : (c : Context) (w : Live) → run (P.evaluated c w) ≡ body (R.ExprStatement c w)
@@ -110,7 +111,7 @@ pub same_inside : (c : Context) (w : Live) (b : Bool) → run (P.inside_by c w b
 same_inside c w true = refl
 same_inside c w false = refl
 
-pub same_arms : (c : Context) (w : Live) (before : Collected) (l : Lexeme) (at : Position) (v : ArmPlace)
+pub same_arms : (c : Context) (w : Live) (before : Collected) (l : Lexeme) (at : Position) (v : ArmRole)
     → run_from (P.arms_by c w before v) (Some (l, at)) ≡ R.arms_at c w before l at v
 same_arms c w before l at arm.Case = refl
 same_arms c w before l at arm.Default = refl
@@ -136,7 +137,7 @@ same_arm_end itself l at after.Comma = refl
 same_arm_end itself l at after.Close = refl
 same_arm_end itself l at after.Nothing = by_cases itself _ _ _
 
-pub same_default_end : (default : Position) (l : Lexeme) (at : Position) (v : ArmPlace)
+pub same_default_end : (default : Position) (l : Lexeme) (at : Position) (v : ArmRole)
     → run_from (P.default_end_by default v) (Some (l, at)) ≡ R.default_end_at default l at v
 same_default_end default l at arm.Close = refl
 same_default_end default l at arm.Nothing = refl
@@ -187,7 +188,7 @@ same_parameters function l at calls_by.Bang = refl
 same_parameters function l at calls_by.Nothing = refl
 
 pub same_parameter : (parts : CommaList) (function : Text) (before : List Text) (l : Lexeme) (at : Position)
-    (v : ItemPlace) → run_from (P.parameter_by parts function before v) (Some (l, at)) ≡ R.parameter_at parts function
+    (v : ItemRole) → run_from (P.parameter_by parts function before v) (Some (l, at)) ≡ R.parameter_at parts function
     before l at v
 same_parameter parts function before l at place.End = refl
 same_parameter parts function before l at place.Item =

@@ -2,24 +2,24 @@
 use Rattle.std.proofs.Common.{◌≡◌, [], Option, refl, ap, ◌∙◌, sym, subst}
 use Rattle.std.specs.Prelude.{◌==◌, unwrap_or}
 use Rattle.rhai_lower.specs.Nodes as node
-use Rattle.rhai_grammar.specs.Statements.{statement_place}
+use Rattle.rhai_grammar.specs.Statements.{statement_role}
 use Rattle.rhai_grammar.specs.Verdicts.{next_key}
-use Rattle.rhai_grammar.specs.Literals.{key_place}
+use Rattle.rhai_grammar.specs.Literals.{key_role}
 use Rattle.rhai_grammar.specs.Settings.{quoted_keys}
 use Rattle.rhai_grammar.specs.Shapes.{node_shape, statements_shape, block_shape}
 use Rattle.rhai_grammar.specs.declared.list.CommaList.TheVariants as lists
 use Rattle.rhai_grammar.specs.Prelude.{Context, Live, Text, text_of, Node, nowhere, expression, is_name}
 use Rattle.rhai_grammar.specs.Prelude.{has_single_blocks, after_part, property_count, node_count, imported}
-use Rattle.rhai_grammar.specs.Prelude.{parameters_live, beginning, calling, linking, follower_of, defines, arm_place}
-use Rattle.rhai_grammar.specs.Prelude.{parameter_place, item_place, operand_start, statement_start, do_end}
+use Rattle.rhai_grammar.specs.Prelude.{parameters_live, beginning, calling, linking, follower_of, defines, arm_role}
+use Rattle.rhai_grammar.specs.Prelude.{parameter_role, item_role, operand_start, statement_start, do_end}
 use Rattle.rhai_reading.specs.Reading as R
 use Rattle.rhai_reading.specs.Reading.{Goal, Val}
 use Rattle.rhai_productions.specs.Shaped.{TreesKeepShape, Code}
-use Rattle.rhai_productions.specs.Rules as P
-use Rattle.rhai_productions.specs.Rules.{production}
-use Rattle.rhai_productions.specs.Derived as F
-use Rattle.rhai_productions.specs.Derived.{given, take, this, if_so, if_not, choose, here, must, knows, adds, uses}
-use Rattle.rhai_productions.specs.Derived.{captures, part, literal, apart, in_text, form}
+use Rattle.rhai_grammar.specs.Rules as P
+use Rattle.rhai_grammar.specs.Rules.{production}
+use Rattle.rhai_grammar.specs.Forms as F
+use Rattle.rhai_grammar.specs.Forms.{given, take, this, if_so, if_not, choose, here, must, knows, adds, uses}
+use Rattle.rhai_grammar.specs.Forms.{captures, part, literal, apart, in_text, form}
 use Rattle.rhai_productions.specs.Shaped as Z
 use Rattle.rhai_productions.proofs.Likeness.{keeps}
 use Rattle.rhai_productions.proofs.NearGoals.{Near, Equal, wholes, expressions_, operands, rights, primaries, calleds}
@@ -65,10 +65,10 @@ like _ _ (item_lists {c} {w} {a} {b} e) = (
       (λ m p q. node_added a b x y e d, (item_lists (node_added a b x y e d), λ i j f. f)) (node_added a b x y e d),
 )
 like _ _ (element_lists {c} {w} {at} {pos} {a} {b} e) = λ l.
-    subst (λ n. LikeIn OnLists (P.element_by c w at a (item_place c.sizes.array (node_count a) l))
-    (P.element_by c w pos b (item_place c.sizes.array n l)))
+    subst (λ n. LikeIn OnLists (P.element_by c w at a (item_role c.sizes.array (node_count a) l))
+    (P.element_by c w pos b (item_role c.sizes.array n l)))
     (sym (count_shape a) ∙ ap node_count e
-    ∙ count_shape b) (element c w at pos a b e (item_place c.sizes.array (node_count a) l))
+    ∙ count_shape b) (element c w at pos a b e (item_role c.sizes.array (node_count a) l))
 like _ _ (field_lists {c} {w} {at} {pos} {a} {b} e) = (keys e, λ v u k. field c w at pos a b e v u k)
 like _ _ (segment_lists {c} {w} {at} {pos} {a} {b} e) = (
   openings,
@@ -85,8 +85,8 @@ like _ _ (segment_lists {c} {w} {at} {pos} {a} {b} e) = (
 like _ _ texts = λ c d l at pos. (refl, refl)
 like _ _ jumps = ((expressions_, λ x y e. ap node.present e), refl)
 like _ _ (keys {c} {a} {b} e) = λ l.
-    subst (λ n. LikeIn OnKeys (P.key_by c a (key_place (quoted_keys c.settings) (property_count a == 0) l))
-    (P.key_by c b (key_place (quoted_keys c.settings) (n == 0) l)))
+    subst (λ n. LikeIn OnKeys (P.key_by c a (key_role (quoted_keys c.settings) (property_count a == 0) l))
+    (P.key_by c b (key_role (quoted_keys c.settings) (n == 0) l)))
     (sym (fields_shape a) ∙ ap property_count e ∙ fields_shape b) (key c a b (next_key c.settings a l))
 like _ _ (followers {f}) = λ l. follower (follower_of f l)
 like _ _ (runs_ {c} {w} {at} {pos} {p} {x} {y} e) = (
@@ -120,9 +120,9 @@ like _ _ (exports {c} {w} {at} {pos}) = λ l. export c w at pos (defines l)
 like _ _ aliases = (λ l at pos m p q. refl, refl)
 like _ _ (statements_ {c} {w}) = λ l. statement c w (statement_start c l)
 like _ _ (statement_lists {closing} {c} {w} {v} {a} {b} i e) = λ l.
-    subst (λ u. LikeIn OnScripts (P.statements closing c w a (statement_place closing l))
-    (P.statements closing c u b (statement_place closing l))) i
-    (statements closing c w a b e (statement_place closing l))
+    subst (λ u. LikeIn OnScripts (P.statements closing c w a (statement_role closing l))
+    (P.statements closing c u b (statement_role closing l))) i
+    (statements closing c w a b e (statement_role closing l))
 like _ _ openings = λ l at pos. tt
 like _ _ (insides {c} {w}) = inside c w (has_single_blocks c)
 like _ _ (blocks {c} {w} {v} {at} {pos} i) =
@@ -140,7 +140,7 @@ like _ _ branches = (λ l p q. (λ m r s. (conditionals, λ f g e. made_so f g e
 like _ _ variables = (λ l at pos m p q n r s o t u x y z i j k. refl, λ l at pos m p q. refl)
 like _ _ catches = λ l at pos. (λ m p q n r s o t u. refl, refl)
 like _ _ do_ends = λ l. do_end_like (do_end l)
-like _ _ (arm_lists {c} {w} {a} {b} e) = λ l. arms c w a b e (arm_place l)
+like _ _ (arm_lists {c} {w} {a} {b} e) = λ l. arms c w a b e (arm_role l)
 like _ _ arms_ = (
   case_lists refl,
   λ xs ys e. (
@@ -156,7 +156,7 @@ like _ _ cases_ = (expressions_, λ x y e. e)
 like _ _ case_guards = (λ l at pos. (guards, λ x y e. e), refl)
 like _ _ (actions {c} {w}) = action c w (has_single_blocks c)
 like _ _ (arm_ends {a} {b} e) = λ l. arm_end a b e (after_part lists.Arms l)
-like _ _ (default_ends {at} {pos}) = λ l. default_end at pos (arm_place l)
+like _ _ (default_ends {at} {pos}) = λ l. default_end at pos (arm_role l)
 like _ _ comments_ = (λ l at pos. (comments_, λ x y e. tt), tt)
 like _ _ function_statements = (functions, λ x y e. (refl, refl))
 like _ _ (functions {c} {a} {b} {p} {q} {k} {l}) = (
@@ -178,7 +178,7 @@ like _ _ heads = λ l at pos. (
       x ≡ y) (is_name l) _ _ _ _ refl tt,
 )
 like _ _ (parameter_lists {t} {u}) = λ l. parameter_list t u (calling l)
-like _ _ (parameters_ {parts} {t} {u} {a} {b} e) = λ l. parameter parts t u a b e (parameter_place parts l)
+like _ _ (parameters_ {parts} {t} {u} {a} {b} e) = λ l. parameter parts t u a b e (parameter_role parts l)
 like _ _ (closures {c} {w} {at} {pos} {by}) = closure_by c w at pos by
 like _ _ (closure_bodies {c} {w} {v} i) =
     subst (λ u. LikeIn OnStatements (P.closure_body c w) (P.closure_body c u)) i (

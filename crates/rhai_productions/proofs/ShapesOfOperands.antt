@@ -9,28 +9,29 @@ use Rattle.rhai_grammar.specs.declared.list.AfterPart.TheVariants as after
 use Rattle.rhai_grammar.specs.declared.list.CommaList.TheVariants as lists
 use Rattle.rhai_grammar.specs.declared.role.Beginning.TheVariants as begin
 use Rattle.rhai_grammar.specs.declared.role.Calling.TheVariants as calls_by
-use Rattle.rhai_grammar.specs.declared.role.ItemPlace.TheVariants as place
+use Rattle.rhai_grammar.specs.declared.role.ItemRole.TheVariants as place
 use Rattle.rhai_grammar.specs.declared.role.Linking.TheVariants as link
 use Rattle.rhai_grammar.specs.declared.role.OperandStart.TheVariants as first
 use Rattle.rhai_grammar.specs.Prelude.{Lexeme, Position, Context, Live, Text, text_of, Node, nowhere, catch_live}
 use Rattle.rhai_grammar.specs.Prelude.{loop_live, Nodes, Properties, no_nodes, with_property, may_be_value, after_part}
-use Rattle.rhai_grammar.specs.Prelude.{KeyPlace, FieldsEnd, AKey, NoKey, Link, is_this, MemberPlace, AMember, NoMember}
+use Rattle.rhai_grammar.specs.Prelude.{KeyRole, FieldsEnd, AKey, NoKey, Link, is_this, MemberRole, AMember, NoMember}
 use Rattle.rhai_grammar.specs.Prelude.{Follower, Operator, Unknown, Other, bracket_link, member_link, may_be_closure}
-use Rattle.rhai_grammar.specs.Prelude.{calling, member_place}
+use Rattle.rhai_grammar.specs.Prelude.{calling, member_role}
 use Rattle.rhai_grammar.specs.declared.role.Construct.{Construct as Kind}
 use Rattle.rhai_grammar.specs.declared.list.AfterPart.{AfterPart}
 use Rattle.rhai_grammar.specs.declared.list.CommaList.{CommaList}
 use Rattle.rhai_grammar.specs.declared.role.Beginning.{Beginning}
 use Rattle.rhai_grammar.specs.declared.role.Calling.{Calling}
-use Rattle.rhai_grammar.specs.declared.role.ItemPlace.{ItemPlace}
+use Rattle.rhai_grammar.specs.declared.role.ItemRole.{ItemRole}
 use Rattle.rhai_grammar.specs.declared.role.Linking.{Linking}
 use Rattle.rhai_grammar.specs.declared.role.OperandStart.{OperandStart}
 use Rattle.rhai_grammar.proofs.ShapeSteps.{value, link_shapes}
+use Rattle.rhai_grammar.specs.Strengths.{continues}
 use Rattle.rhai_reading.specs.Reading as R
 use Rattle.rhai_reading.specs.Reading.{Goal, Val}
-use Rattle.rhai_productions.specs.Schema.{Production, stop}
-use Rattle.rhai_productions.specs.Rules as P
-use Rattle.rhai_productions.specs.Rules.{production}
+use Rattle.rhai_grammar.specs.Productions.{Production, stop}
+use Rattle.rhai_grammar.specs.Rules as P
+use Rattle.rhai_grammar.specs.Rules.{production}
 use Rattle.rhai_productions.proofs.Likeness.{Like}
 use Rattle.rhai_productions.proofs.NearGoals.{Near, Equal, expressions_, operands, rights, primaries, calleds, chains_}
 use Rattle.rhai_productions.proofs.NearGoals.{indices, members, postfixes, argument_lists, element_lists, field_lists}
@@ -144,7 +145,7 @@ abbrev pub OnLinks : List Link → List Link → Type 0
 OnLinks x y = link_shapes x ≡ link_shapes y
 
 pub dotted : (w : Live) (c b : Context) (i j : Option Node) (ls ms : List Link) → link_shapes ls ≡ link_shapes ms
-    → (l : Lexeme) (at pos : Position) (v : MemberPlace) → LikeIn OnLinks
+    → (l : Lexeme) (at pos : Position) (v : MemberRole) → LikeIn OnLinks
     (P.dotted_by w (record { settings = c; brackets = b; indexed = i; before = ls }) l at v)
     (P.dotted_by w (record { settings = c; brackets = b; indexed = j; before = ms }) l pos v)
 dotted w c b i j ls ms e l at pos AMember = (
@@ -166,7 +167,7 @@ links w c b i j ls ms e link.Bracket = λ l at pos. (
     λ m n f. f,
   ),
 )
-links w c b i j ls ms e link.Dot = λ l at pos m. dotted w c b i j ls ms e l at pos (member_place m)
+links w c b i j ls ms e link.Dot = λ l at pos m. dotted w c b i j ls ms e l at pos (member_role m)
 links w c b i j ls ms e link.Nothing = e
 
 pub parted : {A B : Type 0} (Q : A → B → Type 0) (parts : CommaList) (on end : Production A) (go stop : Production B)
@@ -176,7 +177,7 @@ parted Q parts on end go stop after.Close g h = λ l at pos. h
 parted Q parts on end go stop after.Nothing g h = tt
 
 pub element : (c : Context) (w : Live) (at pos : Position) (a b : Nodes) → nodes_shape a ≡ nodes_shape b
-    → (v : ItemPlace) → LikeIn OnLists (P.element_by c w at a v) (P.element_by c w pos b v)
+    → (v : ItemRole) → LikeIn OnLists (P.element_by c w at a v) (P.element_by c w pos b v)
 element c w at pos a b e place.End = λ l p q. e
 element c w at pos a b e place.Item = (
   expressions_,
@@ -195,7 +196,7 @@ OnFields x y = properties_shape x ≡ properties_shape y
 abbrev pub OnKeys : Option (Text × Position) → Option (Text × Position) → Type 0
 OnKeys x y = option_map (λ k. k.0) x ≡ option_map (λ k. k.0) y
 
-pub key : (c : Context) (a b : Properties) (v : KeyPlace) → LikeIn OnKeys (P.key_by c a v) (P.key_by c b v)
+pub key : (c : Context) (a b : Properties) (v : KeyRole) → LikeIn OnKeys (P.key_by c a v) (P.key_by c b v)
 key c a b FieldsEnd = λ l p q. refl
 key c a b (AKey k) = λ l p q m r s. (tt, refl)
 key c a b (NoKey why) = tt
@@ -222,6 +223,6 @@ follower Other = refl
 pub binary : (c : Context) (w : Live) (at pos : Position) (p : ℕ) (x y : Node) → node_shape x ≡ node_shape y
     → (v : Option (ℕ × Bool)) → LikeIn OnNodes (P.binary_of c w at p x v) (P.binary_of c w pos p y v)
 binary c w at pos p x y e None = e
-binary c w at pos p x y e (Some op) = like_if OnNodes (R.continues p op.0 op.1) _ _ _ _
+binary c w at pos p x y e (Some op) = like_if OnNodes (continues p op.0 op.1) _ _ _ _
     (λ l q s.
     (rights, λ a b d. (followers, λ m n f. (runs_ d, λ r t g. (runs_ (operator_so l q s x y r t e g), λ i j h. h))))) e

@@ -4,15 +4,15 @@ use Rattle.std.proofs.Common.{◌≡◌, Bool, true, false, List, [], ◌∷◌,
 use Rattle.std.proofs.Common.{subst, if◌then◌else◌}
 use Rattle.std.specs.Prelude.{unwrap_or}
 use Rattle.rhai_lower.specs.Nodes as node
-use Rattle.rhai_grammar.specs.declared.role.StatementPlace.TheVariants as st
+use Rattle.rhai_grammar.specs.declared.role.StatementRole.TheVariants as st
 use Rattle.rhai_grammar.specs.Definitions.{reused}
 use Rattle.rhai_grammar.specs.Shapes.{node_shape, nodes_shape, statement_shape, statements_shape}
 use Rattle.rhai_grammar.specs.declared.role.AfterStatement.TheVariants as ends
 use Rattle.rhai_grammar.specs.declared.list.AfterPart.TheVariants as after
-use Rattle.rhai_grammar.specs.declared.role.ArmPlace.TheVariants as arm
+use Rattle.rhai_grammar.specs.declared.role.ArmRole.TheVariants as arm
 use Rattle.rhai_grammar.specs.declared.role.Bars.TheVariants as bars
 use Rattle.rhai_grammar.specs.declared.role.Calling.TheVariants as calls_by
-use Rattle.rhai_grammar.specs.declared.role.ItemPlace.TheVariants as place
+use Rattle.rhai_grammar.specs.declared.role.ItemRole.TheVariants as place
 use Rattle.rhai_grammar.specs.declared.role.StatementStart.TheVariants as start
 use Rattle.rhai_grammar.specs.Prelude.{Position, Context, Live, Text, text_of, Node, nowhere, ends_itself, with_kept}
 use Rattle.rhai_grammar.specs.Prelude.{definition_tree, defined_as, Nodes, after_part, added_text, export_tree}
@@ -20,21 +20,21 @@ use Rattle.rhai_grammar.specs.Prelude.{exported, Comment, Collected, ends_arm, U
 use Rattle.rhai_grammar.specs.Prelude.{token_after_statement, names_of}
 use Rattle.rhai_grammar.specs.declared.role.AfterStatement.{AfterStatement}
 use Rattle.rhai_grammar.specs.declared.role.Closing.{Closing}
-use Rattle.rhai_grammar.specs.declared.role.StatementPlace.{StatementPlace}
+use Rattle.rhai_grammar.specs.declared.role.StatementRole.{StatementRole}
 use Rattle.rhai_grammar.specs.declared.list.AfterPart.{AfterPart}
 use Rattle.rhai_grammar.specs.declared.list.CommaList.{CommaList}
-use Rattle.rhai_grammar.specs.declared.role.ArmPlace.{ArmPlace}
+use Rattle.rhai_grammar.specs.declared.role.ArmRole.{ArmRole}
 use Rattle.rhai_grammar.specs.declared.role.Bars.{Bars}
 use Rattle.rhai_grammar.specs.declared.role.Calling.{Calling}
-use Rattle.rhai_grammar.specs.declared.role.ItemPlace.{ItemPlace}
+use Rattle.rhai_grammar.specs.declared.role.ItemRole.{ItemRole}
 use Rattle.rhai_grammar.specs.declared.role.StatementStart.{StatementStart}
 use Rattle.rhai_grammar.proofs.SwitchLemmas.{collected_shape}
 use Rattle.rhai_reading.specs.Reading as R
 use Rattle.rhai_reading.specs.Reading.{Goal, Val}
-use Rattle.rhai_productions.specs.Schema as S
-use Rattle.rhai_productions.specs.Schema.{Production, View, view, name, stop}
-use Rattle.rhai_productions.specs.Rules as P
-use Rattle.rhai_productions.specs.Rules.{production}
+use Rattle.rhai_grammar.specs.Productions as S
+use Rattle.rhai_grammar.specs.Productions.{Production, View, view, name, stop}
+use Rattle.rhai_grammar.specs.Rules as P
+use Rattle.rhai_grammar.specs.Rules.{production}
 use Rattle.rhai_productions.proofs.NearGoals.{expressions_, segment_lists, jumps, evaluations, names_, initializers}
 use Rattle.rhai_productions.proofs.NearGoals.{definitions, imports_, exports, aliases, statements_, statement_lists}
 use Rattle.rhai_productions.proofs.NearGoals.{constructs, arm_lists, arms_, default_arms, comments_}
@@ -96,7 +96,7 @@ after_one closing c w v a b i e true false h = absurd cc
 after_one closing c w v a b i e false true h = absurd cc
 
 pub statements : (closing : Closing) (c : Context) (w : Live) (a b : node.Statements) → statements_shape a
-    ≡ statements_shape b → (s : StatementPlace) → LikeIn OnScripts (P.statements closing c w a s)
+    ≡ statements_shape b → (s : StatementRole) → LikeIn OnScripts (P.statements closing c w a s)
     (P.statements closing c w b s)
 statements closing c w a b e st.Close = (e, refl)
 statements closing c w a b e st.Statement = (
@@ -117,7 +117,7 @@ pub do_end_like : (v : Option Bool) → LikeIn (λ (x y : Bool). x ≡ y) (P.do_
 do_end_like None = tt
 do_end_like (Some b) = λ l at pos. refl
 
-pub arms : (c : Context) (w : Live) (a b : Collected) → collected_shape a ≡ collected_shape b → (v : ArmPlace)
+pub arms : (c : Context) (w : Live) (a b : Collected) → collected_shape a ≡ collected_shape b → (v : ArmRole)
     → LikeIn (λ (x y : Collected). collected_shape x ≡ collected_shape y) (P.arms_by c w a v) (P.arms_by c w b v)
 arms c w a b e arm.Case = (arms_, λ x y d. (arm_lists (arm_so a b x.0 y.0 x.1 y.1 x.2 y.2 e d.0 d.1 d.2), λ i j f. f))
 arms c w a b e arm.Default = λ l at pos. (default_arms, λ x y d. default_so a b x y e d)
@@ -151,7 +151,7 @@ arm_end false false e after.Nothing = tt
 arm_end true false e after.Nothing = absurd cc
 arm_end false true e after.Nothing = absurd cc
 
-pub default_end : (at pos : Position) (v : ArmPlace) → LikeIn Any (P.default_end_by at v) (P.default_end_by pos v)
+pub default_end : (at pos : Position) (v : ArmRole) → LikeIn Any (P.default_end_by at v) (P.default_end_by pos v)
 default_end at pos arm.Close = λ l p q. tt
 default_end at pos arm.Nothing = tt
 default_end at pos _ = tt
@@ -165,7 +165,7 @@ parameter_list t u calls_by.List = λ l p q. (parameters_ refl, λ x y e. e)
 parameter_list t u calls_by.Bang = tt
 parameter_list t u calls_by.Nothing = tt
 
-pub parameter : (parts : CommaList) (t u : Text) (a b : List Text) → a ≡ b → (v : ItemPlace)
+pub parameter : (parts : CommaList) (t u : Text) (a b : List Text) → a ≡ b → (v : ItemRole)
     → LikeIn Alike_lists (P.parameter_by parts t a v) (P.parameter_by parts u b v)
 parameter parts t u a b e place.End = λ l p q. e
 parameter parts t u a b e place.Item = λ l p q m. parted Alike_lists parts _ _ _ _ (after_part parts m)

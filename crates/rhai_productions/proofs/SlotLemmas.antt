@@ -19,16 +19,16 @@ use Rattle.rhai_grammar.specs.declared.role.AfterStatement.TheVariants as ends
 use Rattle.rhai_grammar.specs.declared.role.Beginning.TheVariants as begin
 use Rattle.rhai_grammar.specs.declared.role.Closing.{Closing}
 use Rattle.rhai_grammar.specs.declared.role.Construct.{Construct as Kind}
-use Rattle.rhai_grammar.specs.declared.role.StatementPlace.{StatementPlace}
-use Rattle.rhai_grammar.specs.declared.role.StatementPlace.TheVariants as stands
+use Rattle.rhai_grammar.specs.declared.role.StatementRole.{StatementRole}
+use Rattle.rhai_grammar.specs.declared.role.StatementRole.TheVariants as stands
 use Rattle.rhai_grammar.specs.declared.role.StatementStart.{StatementStart}
 use Rattle.rhai_grammar.specs.declared.role.StatementStart.TheVariants as start
 use Rattle.rhai_grammar.proofs.SlotLemmas.{latest_number, reusable}
 use Rattle.rhai_reading.specs.Reading as R
 use Rattle.rhai_reading.specs.Reading.{Goal, Val}
-use Rattle.rhai_productions.specs.Rules as P
-use Rattle.rhai_productions.specs.Rules.{production}
-use Rattle.rhai_productions.specs.Derived as D
+use Rattle.rhai_grammar.specs.Rules as P
+use Rattle.rhai_grammar.specs.Rules.{production}
+use Rattle.rhai_grammar.specs.Forms as D
 use Rattle.rhai_productions.specs.Always.{Always}
 use Rattle.rhai_productions.specs.SlotLaws.{NoSlot, NumberedSlot, ScopesClose}
 use Rattle.rhai_productions.proofs.AlwaysLemmas.{always, trivially}
@@ -230,7 +230,7 @@ after_one : (closing : Closing) (c : Context) (u w : Live) (fs : node.Statements
 after_one closing c u w fs true k = λ r h. on u w r.1 k h
 after_one closing c u w fs false k = λ v. separated closing c u w fs v k
 
-statements : (closing : Closing) (c : Context) (w : Live) (fs : node.Statements) (v : StatementPlace)
+statements : (closing : Closing) (c : Context) (w : Live) (fs : node.Statements) (v : StatementRole)
     → Always Right (λ r. Kept w r.1) (P.statements closing c w fs v)
 statements closing c w fs stands.Close = same w
 statements closing c w fs stands.Statement =

@@ -5,16 +5,16 @@ use Rattle.rhai_grammar.specs.Prelude.{Demands, Nothing, Missed, is_text, Fine, 
 use Rattle.rhai_grammar.specs.Prelude.{not_due, unexpected, Test, ◌▸◌}
 use Rattle.rhai_grammar.specs.Verdicts.{anything}
 use Rattle.rhai_grammar.specs.declared.due.DueToken.TheVariants.{RightBrace}
-use Rattle.rhai_grammar.proofs.PlaceSteps.{AllUses, Ends, Modes}
-use Rattle.rhai_grammar.proofs.PlaceWays.{BlamesAt, Places, Refusing, AtTokens, after, ahead, apart_from, done, here}
-use Rattle.rhai_grammar.proofs.PlaceWays.{literally, next, shape, test_in, tok}
-use Rattle.rhai_grammar.proofs.PlaceWays as W
+use Rattle.rhai_grammar.proofs.PositionSteps.{AllUses, Ends, Modes}
+use Rattle.rhai_grammar.proofs.PositionWays.{BlamesAt, Places, Refusing, AtTokens, after, ahead, apart_from, done, here}
+use Rattle.rhai_grammar.proofs.PositionWays.{literally, next, shape, test_in, tok}
+use Rattle.rhai_grammar.proofs.PositionWays as W
 use Rattle.rhai_reading.specs.Reading.{Goal, Val}
-use Rattle.rhai_productions.specs.Schema.{Production, Seen, view}
-use Rattle.rhai_productions.specs.Schema as S
-use Rattle.rhai_productions.specs.Derived as F
-use Rattle.rhai_productions.specs.Derived.{given, take, this, if_so, if_not, choose, must, knows, adds, uses, captures}
-use Rattle.rhai_productions.specs.Derived.{part, literal, apart, in_text, form}
+use Rattle.rhai_grammar.specs.Productions.{Production, Seen, view}
+use Rattle.rhai_grammar.specs.Productions as S
+use Rattle.rhai_grammar.specs.Forms as F
+use Rattle.rhai_grammar.specs.Forms.{given, take, this, if_so, if_not, choose, must, knows, adds, uses, captures}
+use Rattle.rhai_grammar.specs.Forms.{part, literal, apart, in_text, form}
 
 -- ---- in which mode tokens are requested: what looks at the next token, and takes none, does so in code mode
 

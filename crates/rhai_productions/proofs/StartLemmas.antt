@@ -8,11 +8,11 @@ use Rattle.rhai_grammar.specs.declared.role.Beginning.{Beginning}
 use Rattle.rhai_grammar.specs.declared.role.Beginning.TheVariants as begin
 use Rattle.rhai_reading.specs.Reading as R
 use Rattle.rhai_reading.specs.Reading.{Goal, Val}
-use Rattle.rhai_productions.specs.Schema.{Production}
-use Rattle.rhai_productions.specs.Rules as P
-use Rattle.rhai_productions.specs.Rules.{production}
+use Rattle.rhai_grammar.specs.Productions.{Production}
+use Rattle.rhai_grammar.specs.Rules as P
+use Rattle.rhai_grammar.specs.Rules.{production}
 use Rattle.rhai_productions.specs.Kept.{Keeps}
-use Rattle.rhai_productions.specs.Derived as D
+use Rattle.rhai_grammar.specs.Forms as D
 use Rattle.rhai_productions.proofs.Keeping.{holds, trivially}
 
 abbrev Right : (g : Goal) → Val g → (first next : Lexeme) → Type 0

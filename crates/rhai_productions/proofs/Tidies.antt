@@ -6,43 +6,44 @@ use Rattle.rhai_lower.specs.Nodes as node
 use Rattle.rhai_grammar.specs.Switches.{arm_count}
 use Rattle.rhai_grammar.specs.declared.role.Construct.TheVariants as kind
 use Rattle.rhai_grammar.specs.declared.role.AfterStatement.TheVariants as ends
-use Rattle.rhai_grammar.specs.declared.role.StatementPlace.TheVariants as stands
+use Rattle.rhai_grammar.specs.declared.role.StatementRole.TheVariants as stands
 use Rattle.rhai_grammar.specs.declared.list.AfterPart.TheVariants as after
 use Rattle.rhai_grammar.specs.declared.list.CommaList.TheVariants as lists
-use Rattle.rhai_grammar.specs.declared.role.ArmPlace.TheVariants as arm
+use Rattle.rhai_grammar.specs.declared.role.ArmRole.TheVariants as arm
 use Rattle.rhai_grammar.specs.declared.role.Bars.TheVariants as bars
 use Rattle.rhai_grammar.specs.declared.role.Beginning.TheVariants as begin
 use Rattle.rhai_grammar.specs.declared.role.Calling.TheVariants as calls_by
-use Rattle.rhai_grammar.specs.declared.role.ItemPlace.TheVariants as place
+use Rattle.rhai_grammar.specs.declared.role.ItemRole.TheVariants as place
 use Rattle.rhai_grammar.specs.declared.role.Linking.TheVariants as link
 use Rattle.rhai_grammar.specs.declared.role.OperandStart.TheVariants as first
 use Rattle.rhai_grammar.specs.declared.role.StatementStart.TheVariants as start
 use Rattle.rhai_grammar.specs.Prelude.{Lexeme, Position, Context, Live, Text, text_of, Node, target_fault}
 use Rattle.rhai_grammar.specs.Prelude.{is_constant_use, is_name, guard_fault, iterated_fault, ends_itself, with_kept}
-use Rattle.rhai_grammar.specs.Prelude.{Nodes, Properties, has_single_blocks, may_be_value, module_fault, KeyPlace}
+use Rattle.rhai_grammar.specs.Prelude.{Nodes, Properties, has_single_blocks, may_be_value, module_fault, KeyRole}
 use Rattle.rhai_grammar.specs.Prelude.{FieldsEnd, AKey, NoKey, LinkSpot, index_refusal, last_fault, is_this}
-use Rattle.rhai_grammar.specs.Prelude.{MemberPlace, AMember, NoMember, arm_fault, Follower, Operator, Unknown, Other}
+use Rattle.rhai_grammar.specs.Prelude.{MemberRole, AMember, NoMember, arm_fault, Follower, Operator, Unknown, Other}
 use Rattle.rhai_grammar.specs.Prelude.{may_be_closure, Comment, Collected, Use}
 use Rattle.rhai_grammar.specs.declared.role.Construct.{Construct as Kind}
 use Rattle.rhai_grammar.specs.declared.role.AfterStatement.{AfterStatement}
 use Rattle.rhai_grammar.specs.declared.role.Closing.{Closing}
-use Rattle.rhai_grammar.specs.declared.role.StatementPlace.{StatementPlace}
+use Rattle.rhai_grammar.specs.declared.role.StatementRole.{StatementRole}
 use Rattle.rhai_grammar.specs.declared.list.AfterPart.{AfterPart}
 use Rattle.rhai_grammar.specs.declared.list.CommaList.{CommaList}
-use Rattle.rhai_grammar.specs.declared.role.ArmPlace.{ArmPlace}
+use Rattle.rhai_grammar.specs.declared.role.ArmRole.{ArmRole}
 use Rattle.rhai_grammar.specs.declared.role.Bars.{Bars}
 use Rattle.rhai_grammar.specs.declared.role.Beginning.{Beginning}
 use Rattle.rhai_grammar.specs.declared.role.Calling.{Calling}
-use Rattle.rhai_grammar.specs.declared.role.ItemPlace.{ItemPlace}
+use Rattle.rhai_grammar.specs.declared.role.ItemRole.{ItemRole}
 use Rattle.rhai_grammar.specs.declared.role.Linking.{Linking}
 use Rattle.rhai_grammar.specs.declared.role.OperandStart.{OperandStart}
 use Rattle.rhai_grammar.specs.declared.role.StatementStart.{StatementStart}
 use Rattle.rhai_grammar.specs.Beginnings.{is_list}
+use Rattle.rhai_grammar.specs.Strengths.{continues}
 use Rattle.rhai_reading.specs.Reading as R
 use Rattle.rhai_reading.specs.Reading.{Goal}
-use Rattle.rhai_productions.specs.Schema.{Production, name}
-use Rattle.rhai_productions.specs.Rules as P
-use Rattle.rhai_productions.specs.Rules.{production}
+use Rattle.rhai_grammar.specs.Productions.{Production, name}
+use Rattle.rhai_grammar.specs.Rules as P
+use Rattle.rhai_grammar.specs.Rules.{production}
 use Rattle.rhai_productions.specs.Tidiness.{Tidy}
 use Rattle.rhai_productions.proofs.Faults.{no_fault, last_early, index_early, module_early, guard_early, iterated_early}
 use Rattle.rhai_productions.proofs.Faults.{target_early, fault_early, bang_early}
@@ -101,7 +102,7 @@ called c w name q calls_by.Bang = λ l at v. (bang_early (is_list v) at, bang c 
 call_of : (c : Context) (w : Live) (x : Node) → Tidy (P.call_of c w x)
 call_of c w x = (λ call. (no_fault (module_fault c w x) (module_early c w x), tt), tt)
 
-dotted : (w : Live) (spot : LinkSpot) (l : Lexeme) (at : Position) (v : MemberPlace) → Tidy (P.dotted_by w spot l at v)
+dotted : (w : Live) (spot : LinkSpot) (l : Lexeme) (at : Position) (v : MemberRole) → Tidy (P.dotted_by w spot l at v)
 dotted w spot l at AMember = (refl, λ x ls. tt)
 dotted w spot l at (NoMember why) = tt
 
@@ -116,13 +117,13 @@ parted parts on end after.Comma g h = λ l at. g
 parted parts on end after.Close g h = λ l at. h
 parted parts on end after.Nothing g h = tt
 
-element : (c : Context) (w : Live) (opening : Position) (before : Nodes) (v : ItemPlace)
+element : (c : Context) (w : Live) (opening : Position) (before : Nodes) (v : ItemRole)
     → Tidy (P.element_by c w opening before v)
 element c w opening before place.End = λ l at. tt
 element c w opening before place.Item = (refl, λ x v. parted lists.Array _ _ v (λ ns. tt) tt)
 element c w opening before place.Nothing = tt
 
-key : (c : Context) (before : Properties) (v : KeyPlace) → Tidy (P.key_by c before v)
+key : (c : Context) (before : Properties) (v : KeyRole) → Tidy (P.key_by c before v)
 key c before FieldsEnd = λ l at. tt
 key c before (AKey k) = λ l at. (refl, λ m p. (tt, tt))
 key c before (NoKey why) = tt
@@ -141,7 +142,7 @@ binary : (c : Context) (w : Live) (at : Position) (parent : ℕ) (lhs : Node) (v
     → Tidy (P.binary_of c w at parent lhs v)
 binary c w at parent lhs None = tt
 binary c w at parent lhs (Some op) =
-    by_either (R.continues parent op.0 op.1) _ _ (λ l pos y next. (refl, λ r. (refl, (refl, λ x. tt)))) tt
+    by_either (continues parent op.0 op.1) _ _ (λ l pos y next. (refl, λ r. (refl, (refl, λ x. tt)))) tt
 
 export : (c : Context) (w : Live) (at : Position) (v : Option Bool) → Tidy (P.export_by c w at v)
 export c w at (Some constant) = (refl, λ l pos f. tt)
@@ -180,7 +181,7 @@ after_one : (closing : Closing) (c : Context) (w : Live) (fs : node.Statements) 
 after_one closing c w fs true = λ r. tt
 after_one closing c w fs false = λ v. separated closing c w fs v
 
-statements : (closing : Closing) (c : Context) (w : Live) (fs : node.Statements) (v : StatementPlace)
+statements : (closing : Closing) (c : Context) (w : Live) (fs : node.Statements) (v : StatementRole)
     → Tidy (P.statements closing c w fs v)
 statements closing c w fs stands.Close = tt
 statements closing c w fs stands.Statement = λ f. after_one closing c f.1 (with_kept fs f.0) (ends_itself f.0)
@@ -194,7 +195,7 @@ do_end_tidy : (v : Option Bool) → Tidy (P.do_end_by v)
 do_end_tidy None = tt
 do_end_tidy (Some b) = λ l at. tt
 
-arms : (c : Context) (w : Live) (before : Collected) (v : ArmPlace) → Tidy (P.arms_by c w before v)
+arms : (c : Context) (w : Live) (before : Collected) (v : ArmRole) → Tidy (P.arms_by c w before v)
 arms c w before arm.Case = λ a r. tt
 arms c w before arm.Default = λ l at x. tt
 arms c w before arm.Close = λ l at. tt
@@ -209,7 +210,7 @@ arm_end itself after.Comma = λ l at. tt
 arm_end itself after.Close = tt
 arm_end itself after.Nothing = by_either itself _ _ tt tt
 
-default_end : (default : Position) (v : ArmPlace) → Tidy (P.default_end_by default v)
+default_end : (default : Position) (v : ArmRole) → Tidy (P.default_end_by default v)
 default_end default arm.Close = λ l at. tt
 default_end default arm.Nothing = tt
 default_end default _ = (refl, tt)
@@ -220,7 +221,7 @@ parameters function calls_by.List = λ l at r. tt
 parameters function calls_by.Bang = tt
 parameters function calls_by.Nothing = tt
 
-parameter : (parts : CommaList) (function : Text) (before : List Text) (v : ItemPlace)
+parameter : (parts : CommaList) (function : Text) (before : List Text) (v : ItemRole)
     → Tidy (P.parameter_by parts function before v)
 parameter parts function before place.End = λ l at. tt
 parameter parts function before place.Item = λ l at. (refl, λ v. parted parts _ _ v (λ r. tt) tt)

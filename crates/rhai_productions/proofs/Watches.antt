@@ -6,8 +6,8 @@ use Rattle.rhai_grammar.specs.Prelude.{Position, Context, Live, Text, text_of, m
 use Rattle.rhai_grammar.specs.Prelude.{Use}
 use Rattle.rhai_grammar.specs.declared.role.Bars.{Bars}
 use Rattle.rhai_grammar.specs.declared.role.Beginning.{Beginning}
-use Rattle.rhai_productions.specs.Schema.{Production}
-use Rattle.rhai_productions.specs.Rules as P
+use Rattle.rhai_grammar.specs.Productions.{Production}
+use Rattle.rhai_grammar.specs.Rules as P
 use Rattle.rhai_productions.specs.Watched.{Watches, NamesAreCaptured}
 
 by_either : (c : Context) (w : Live) {A : Type 0} (b : Bool) (p q : Production A) → Watches c w p → Watches c w q

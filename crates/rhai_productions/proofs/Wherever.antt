@@ -8,11 +8,11 @@ use Rattle.rhai_grammar.specs.Delivered as M
 use Rattle.rhai_grammar.specs.Delivered.{ask}
 use Rattle.rhai_grammar.specs.declared.due.DueToken.TheVariants.{RightBrace}
 use Rattle.rhai_reading.specs.Reading.{Goal, Val}
-use Rattle.rhai_productions.specs.Schema.{Production}
-use Rattle.rhai_productions.specs.Derived as F
-use Rattle.rhai_productions.specs.Derived.{given, take, this, if_so, if_not, choose, here, must, knows, adds, uses}
-use Rattle.rhai_productions.specs.Derived.{captures, part, literal, apart, in_text, form}
-use Rattle.rhai_productions.specs.Events as D
+use Rattle.rhai_grammar.specs.Productions.{Production}
+use Rattle.rhai_grammar.specs.Forms as F
+use Rattle.rhai_grammar.specs.Forms.{given, take, this, if_so, if_not, choose, here, must, knows, adds, uses}
+use Rattle.rhai_grammar.specs.Forms.{captures, part, literal, apart, in_text, form}
+use Rattle.rhai_grammar.specs.Events as D
 use Rattle.rhai_productions.specs.EventLaws as law
 use Rattle.rhai_productions.proofs.Passing.{leaves_its}
 

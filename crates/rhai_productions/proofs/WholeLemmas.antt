@@ -5,22 +5,21 @@ use Rattle.rhai_lower.specs.declared.token.Token.TheVariants as token
 use Rattle.rhai_lower.specs.Nodes as node
 use Rattle.rhai_grammar.specs.Prelude.{Lexeme, Sign, Context, Live, Point, Met, Nothing, Ended, Taken, Tokens, later}
 use Rattle.rhai_grammar.specs.Prelude.{leads, is_end, ends_itself, with_kept, Mode, code, text, token_after_statement}
-use Rattle.rhai_grammar.specs.Statements.{statement_place}
-use Rattle.rhai_grammar.specs.Delivered.{Ends, Then, ask}
-use Rattle.rhai_grammar.specs.Spelling.{IsDelivered, is_deliverable}
+use Rattle.rhai_grammar.specs.Statements.{statement_role}
+use Rattle.rhai_grammar.specs.Delivered.{Ends, Then, ask, IsDelivered, is_deliverable}
 use Rattle.rhai_grammar.specs.declared.role.AfterStatement.{AfterStatement}
 use Rattle.rhai_grammar.specs.declared.role.AfterStatement.TheVariants as ends
-use Rattle.rhai_grammar.specs.declared.role.StatementPlace.{StatementPlace}
-use Rattle.rhai_grammar.specs.declared.role.StatementPlace.TheVariants as stands
+use Rattle.rhai_grammar.specs.declared.role.StatementRole.{StatementRole}
+use Rattle.rhai_grammar.specs.declared.role.StatementRole.TheVariants as stands
 use Rattle.rhai_grammar.specs.declared.role.Closing.TheVariants.{EndMark}
 use Rattle.rhai_reading.specs.Reading as R
 use Rattle.rhai_reading.specs.Reading.{Goal, Val, Whole, Script}
 use Rattle.rhai_reading.proofs.Looks.{op_at}
-use Rattle.rhai_productions.specs.Schema.{Production}
-use Rattle.rhai_productions.specs.Rules as P
-use Rattle.rhai_productions.specs.Rules.{production}
-use Rattle.rhai_productions.specs.Derived as D
-use Rattle.rhai_productions.specs.Events as F
+use Rattle.rhai_grammar.specs.Productions.{Production}
+use Rattle.rhai_grammar.specs.Rules as P
+use Rattle.rhai_grammar.specs.Rules.{production}
+use Rattle.rhai_grammar.specs.Forms as D
+use Rattle.rhai_grammar.specs.Events as F
 use Rattle.rhai_productions.specs.Kept.{Keeps}
 use Rattle.rhai_productions.specs.StreamLaws.{StreamsAreWhole}
 use Rattle.rhai_productions.proofs.Keeping.{holds, trivially}
@@ -34,7 +33,7 @@ Right _ x l n = Unit {0}
 abbrev Good : Ended → Type 0
 Good x = Unit {0}
 
-place_ends : (l : Lexeme) → statement_place EndMark l ≡ stands.Close → is_end l ≡ true
+place_ends : (l : Lexeme) → statement_role EndMark l ≡ stands.Close → is_end l ≡ true
 place_ends (Sign token.EOF) e = refl
 place_ends _ e = absurd cc
 
@@ -56,8 +55,8 @@ after_one : (c : Context) (w : Live) (fs : node.Statements) (b : Bool) (n : Lexe
 after_one c w fs true n = λ gs m h. h
 after_one c w fs false n = λ v e. separated c w fs v n e
 
-statements : (c : Context) (w : Live) (fs : node.Statements) (v : StatementPlace) (n : Lexeme)
-    → statement_place EndMark n ≡ v → AtEnd (P.statements EndMark c w fs v) n
+statements : (c : Context) (w : Live) (fs : node.Statements) (v : StatementRole) (n : Lexeme)
+    → statement_role EndMark n ≡ v → AtEnd (P.statements EndMark c w fs v) n
 statements c w fs stands.Close n e = place_ends n e
 statements c w fs stands.Statement n e = λ f m h. after_one c f.1 (with_kept fs f.0) (ends_itself f.0) m
 statements c w fs stands.Nothing n e = tt

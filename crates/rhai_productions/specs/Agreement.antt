@@ -4,7 +4,8 @@ use Rattle.rhai_reading.specs.Histories as history
 use Rattle.rhai_reading.specs.Histories.{State}
 use Rattle.rhai_reading.specs.Moves.{Moves, Outcome, exec}
 use Rattle.rhai_reading.specs.Reading as R
-use Rattle.rhai_reading.specs.Reading.{Goal, Val, Prog}
+use Rattle.rhai_grammar.specs.Goals.{Goal, Val}
+use Rattle.rhai_reading.specs.Reading.{Prog}
 use Rattle.rhai_reading.specs.Running as running
 use Rattle.rhai_reading.specs.Running.{Progress}
 

@@ -1,9 +1,9 @@
 -- When a production makes trees of which something holds, whether the form fits or not.
 use Rattle.std.specs.Prelude.{ℕ, Bool, List}
 use Rattle.rhai_grammar.specs.Prelude.{Lexeme, Position, Use}
-use Rattle.rhai_reading.specs.Reading.{Goal, Val}
-use Rattle.rhai_productions.specs.Schema.{Production, View, Seen}
-use Rattle.rhai_productions.specs.Schema as S
+use Rattle.rhai_grammar.specs.Goals.{Goal, Val}
+use Rattle.rhai_grammar.specs.Productions.{Production, View, Seen}
+use Rattle.rhai_grammar.specs.Productions as S
 
 -- `Right` holds of the tree of each part.
 module _ (Right : (g : Goal) → Val g → Type 0) where

@@ -4,10 +4,10 @@ use Rattle.rhai_grammar.specs.Prelude.{Context, Live, Node, Link, node_shape, be
 use Rattle.rhai_grammar.specs.declared.role.Beginning.{Beginning}
 use Rattle.rhai_grammar.specs.declared.role.Beginning.TheVariants as begin
 use Rattle.rhai_grammar.proofs.ShapeSteps.{link_shapes}
-use Rattle.rhai_reading.specs.Reading.{Operand, Primary, Expression}
-use Rattle.rhai_productions.specs.Rules as P
-use Rattle.rhai_productions.specs.Rules.{production}
-use Rattle.rhai_productions.specs.Derived.{Form, Filled, this, choose, here, must, part, form}
+use Rattle.rhai_grammar.specs.Goals.{Operand, Primary, Expression}
+use Rattle.rhai_grammar.specs.Rules as P
+use Rattle.rhai_grammar.specs.Rules.{production}
+use Rattle.rhai_grammar.specs.Forms.{Form, Filled, this, choose, here, must, part, form}
 
 -- an operand without sign: what its links follow, and its links
 abbrev pub ChainBy : (v : Beginning) {c : Context} {w : Live} {a : Node}

@@ -1,17 +1,44 @@
 -- Laws of closures: their parameters, `curry`, and where captured names are used.
-use Rattle.std.specs.Prelude.{◌≡◌, ◌⊎◌, true, ◌++◌, List, [], ◌∷◌, None, codes, length, refl}
-use Rattle.rhai_lower.specs.Nodes.{Block}
+use Rattle.std.specs.Prelude.{◌≡◌, ◌⊎◌, true, ◌++◌, List, [], ◌∷◌, None, codes, length, refl, ℕ, false, Option, map}
+use Rattle.rhai_lower.specs.Nodes.{Block, Node, Nodes}
 use Rattle.std.specs.Option.{is_some}
-use Rattle.rhai_grammar.specs.Prelude.{Text, Position, Node, Context, Live, Ended, Point, Met, Nothing, closure_name}
+use Rattle.rhai_grammar.specs.Prelude.{Text, Position, Context, Live, Ended, Point, Met, Nothing, closure_name}
 use Rattle.rhai_grammar.specs.Prelude.{ended_closure, names_of, is_among, is_function, number}
-use Rattle.rhai_grammar.specs.ClosureLaws.{AreDistinct, Hands, pointer_to}
 use Rattle.rhai_grammar.specs.Settings.{in_closure}
 use Rattle.rhai_grammar.specs.declared.role.Bars.{Bars}
-use Rattle.rhai_reading.specs.Reading.{Closure}
-use Rattle.rhai_productions.specs.Rules.{production}
-use Rattle.rhai_productions.specs.Derived as D
-use Rattle.rhai_productions.specs.Events.{ended_in, events}
+use Rattle.rhai_grammar.specs.Goals.{Closure}
+use Rattle.rhai_grammar.specs.Rules.{production}
+use Rattle.rhai_grammar.specs.Events.{ended_in, events}
 use Rattle.rhai_productions.specs.Numbered.{ClosureParts, closure_parts}
+use Rattle.rhai_lower.specs.Positions.{nowhere}
+use Rattle.rhai_grammar.specs.Closures.{curry}
+use Rattle.rhai_grammar.specs.Trees.{named_by}
+use Rattle.rhai_grammar.specs.Forms as D
+use Rattle.rhai_lower.specs.Nodes as node
+
+-- the names of variables
+abbrev pub names_in : Nodes → List Text
+names_in node.no_nodes = []
+names_in (node.one_node x xs) = (named_by x).name ∷ names_in xs
+
+-- A block that shares these names and gives them to `curry`, after this pointer, in the same order.
+pub record Hands (at : Position) (names : List Text) (pointer x : Node) : Type 0 where
+  pub shared : List (Text × Position × Option ℕ)
+  pub handed : Nodes
+  pub is : x ≡ node.block_value (node.braces (node.one_statement (node.share shared at) (node.one_statement (
+      node.expression (node.call (curry (length names)) (node.one_node pointer handed) at)) node.no_statements))
+      at nowhere)
+  pub shared_are : map (λ s. s.0) shared ≡ names
+  pub handed_are : names_in handed ≡ names
+
+-- the pointer to the closure with this number and these parameters
+abbrev pub pointer_to : (number : ℕ) → (parameters : List Text) → Position → Node
+pointer_to number parameters at = node.pointer (closure_name number) (length parameters) at
+
+-- no name stands among those before it
+abbrev pub AreDistinct : (before : List Text) → List Text → Type 0
+AreDistinct before [] = Unit {0}
+AreDistinct before (name ∷ names) = (is_among name before ≡ false) × AreDistinct (before ++ name ∷ []) names
 
 -- Of the tree of each closure, of its parts, and of the functions that end in it, this holds: at this position, and
 -- where these are live.

@@ -3,11 +3,11 @@ use Rattle.std.specs.Prelude.{◌≡◌, ℕ, List, ◌++◌}
 use Rattle.rhai_grammar.specs.Prelude.{Mode, code, Point, Use, Refusal, Demands, Nothing, Met, Missed, Gives, leads}
 use Rattle.rhai_grammar.specs.Prelude.{closure_count}
 use Rattle.rhai_grammar.specs.Delivered.{ask}
-use Rattle.rhai_grammar.specs.UsesOfForms.{HoldsFirst, with_uses, first_uses}
-use Rattle.rhai_reading.specs.Reading.{Goal, Val}
-use Rattle.rhai_productions.specs.Schema.{Production}
-use Rattle.rhai_productions.specs.Derived.{Form, Filled, Open, apart, demands, demanded, stops}
-use Rattle.rhai_productions.specs.Events.{spelling, events, stop_events, ended_in, free_uses}
+use Rattle.rhai_grammar.specs.Events.{HoldsFirst, with_uses, first_uses, spelling, events, stop_events, ended_in}
+use Rattle.rhai_grammar.specs.Events.{free_uses}
+use Rattle.rhai_grammar.specs.Goals.{Goal, Val}
+use Rattle.rhai_grammar.specs.Productions.{Production}
+use Rattle.rhai_grammar.specs.Forms.{Form, Filled, Open, apart, demands, demanded, stops}
 
 -- `rule` says what is written where each goal is read.
 module _ (rule : (g : Goal) → Production (Val g)) where

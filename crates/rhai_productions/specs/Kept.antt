@@ -2,9 +2,9 @@
 -- which it begins, and the one that follows it.
 use Rattle.std.specs.Prelude.{◌≡◌, ℕ, Bool, true, false, List}
 use Rattle.rhai_grammar.specs.Prelude.{Lexeme, Position, Use, Ended}
-use Rattle.rhai_reading.specs.Reading.{Goal, Val}
-use Rattle.rhai_productions.specs.Schema.{Production, View, Seen, view}
-use Rattle.rhai_productions.specs.Schema as S
+use Rattle.rhai_grammar.specs.Goals.{Goal, Val}
+use Rattle.rhai_grammar.specs.Productions.{Production, View, Seen, view}
+use Rattle.rhai_grammar.specs.Productions as S
 
 -- `Right` holds of the tree of each part, `Good` of each function that ends.
 module _ (Right : (g : Goal) → Val g → (first next : Lexeme) → Type 0) (Good : Ended → Type 0) where

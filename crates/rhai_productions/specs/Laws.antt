@@ -3,24 +3,22 @@ use Rattle.std.specs.Prelude.{◌≡◌, ◌⊎◌, ◌≤◌, ◌+◌, ◌-◌,
 use Rattle.rhai_grammar.specs.Causes.{Refusal, is_memory_cause}
 use Rattle.rhai_grammar.specs.Contexts.{Context, Live}
 use Rattle.rhai_grammar.specs.Cursors.{Cursor}
-use Rattle.rhai_grammar.specs.Definitions.{after_statements}
 use Rattle.rhai_grammar.specs.Delivered.{Point, code}
 use Rattle.rhai_grammar.specs.Demands.{Met, Missed}
-use Rattle.rhai_grammar.specs.Forms.{Run, Statements}
-use Rattle.rhai_grammar.specs.Promises.{IsWritten, expressions, scripts}
+use Rattle.rhai_grammar.specs.Promises.{IsWritten}
 use Rattle.rhai_grammar.specs.Seen.{StandsAtLast}
-use Rattle.rhai_grammar.specs.Trees.{statement_trees, tree}
 use Rattle.rhai_grammar.specs.declared.error.ParseError.{ParseError}
 use Rattle.rhai_reading.specs.Histories.{State, Done, Refused, Runs, calls}
 use Rattle.rhai_reading.specs.Nesting.{Nesting}
-use Rattle.rhai_reading.specs.Reading.{Goal, Val, Whole, Script, body}
+use Rattle.rhai_grammar.specs.Goals.{Goal, Val, Whole, Script}
+use Rattle.rhai_reading.specs.Reading.{body}
 use Rattle.rhai_reading.specs.Running as running
 use Rattle.rhai_reading.specs.Running.{Gives, Progress, result_of}
 use Rattle.rhai_productions.specs.Agreement.{Agrees, histories, looks_twice, runs}
-use Rattle.rhai_productions.specs.Derived as derived
-use Rattle.rhai_productions.specs.Promised.{ReadsWhole, Written, written, tree_of, Unwritten, unwritten}
-use Rattle.rhai_productions.specs.Rules.{production}
-use Rattle.rhai_productions.specs.Schema.{run}
+use Rattle.rhai_grammar.specs.Forms as derived
+use Rattle.rhai_grammar.specs.Promises.{ReadsWhole, Written, written, tree_of, Unwritten, unwritten}
+use Rattle.rhai_grammar.specs.Rules.{production}
+use Rattle.rhai_productions.specs.Readers.{run}
 
 -- The reader of each production is the term that the reading program has for its goal, but where that looks twice at
 -- one
@@ -65,24 +63,6 @@ FormsHaveOneTree =
     (g : Goal) (f h : Written g) (s t u : Point) → Met (written g f) s t → Met (written g h) s u
     → (tree_of g f ≡ tree_of g h) × (t ≡ u)
 
--- Where an expression or a script is written by a form of one kind, it is so by one of the other, with the same tree:
--- the forms that follow from productions, and those of `rhai_grammar`.
-pub record FormsAgree : Type 0 where
-  pub expression : (context : Context) (live : Live) (f : Run) (s t : Point) → Met (expressions context live f) s t
-      → (h : Written (Whole context live)) × (tree_of (Whole context live) h ≡ tree f live)
-      × Met (written (Whole context live) h) s t
-  pub expression_back : (context : Context) (live : Live) (h : Written (Whole context live)) (s t : Point)
-      → Met (written (Whole context live) h) s t
-      → (f : Run) × (tree f live ≡ tree_of (Whole context live) h) × Met (expressions context live f) s t
-  pub script : (context : Context) (live : Live) (fs : Statements) (s t : Point) → Met (scripts context live fs) s t
-      → (h : Written (Script context live))
-      × (tree_of (Script context live) h ≡ (statement_trees fs live, after_statements fs live))
-      × Met (written (Script context live) h) s t
-  pub script_back : (context : Context) (live : Live) (h : Written (Script context live)) (s t : Point)
-      → Met (written (Script context live) h) s t
-      → (fs : Statements) × ((statement_trees fs live, after_statements fs live) ≡ tree_of (Script context live) h)
-      × Met (scripts context live fs) s t
-
 -- ---- how deeply readers are nested
 
 -- The peak is at least so many readers above those that were active before, or it is the greatest number that there is.
@@ -103,7 +83,7 @@ abbrev pub IsPromised : Goal → Type 0
 IsPromised g =
     (s left : Progress) (result : Result (Val g) ParseError) → s.cursor.mode ≡ code → s.captured ≡ []
     → Gives (λ x. x) (result_of g s) result left
-    → ReadsWhole (written g) (unwritten g) (λ f x. tree_of g f ≡ x) s.library left.library s.cursor left.cursor result
+    → ReadsWhole g (λ f x. tree_of g f ≡ x) s.library left.library s.cursor left.cursor result
 
 -- So it is for whole expressions and for scripts.
 pub record EntriesArePromised : Type 0 where

@@ -5,11 +5,11 @@ use Rattle.rhai_grammar.specs.Prelude.{Text, Context, Live, Mode, Point, Refusal
 use Rattle.rhai_grammar.specs.Prelude.{ended_closure, in_closure, is_new, level_up, made_block, parameters_live}
 use Rattle.rhai_grammar.specs.LibraryLaws.{duplicates_closure}
 use Rattle.rhai_grammar.specs.NumberedLibraries.{IsOrderly}
-use Rattle.rhai_reading.specs.Reading.{ClosureBody, Goal, Val, Whole, Script}
-use Rattle.rhai_productions.specs.Schema.{give}
-use Rattle.rhai_productions.specs.Rules as P
-use Rattle.rhai_productions.specs.Rules.{production}
-use Rattle.rhai_productions.specs.Derived as D
+use Rattle.rhai_grammar.specs.Goals.{ClosureBody, Goal, Val, Whole, Script}
+use Rattle.rhai_grammar.specs.Productions.{give}
+use Rattle.rhai_grammar.specs.Rules as P
+use Rattle.rhai_grammar.specs.Rules.{production}
+use Rattle.rhai_grammar.specs.Forms as D
 
 -- A library that is orderly before a form is so after it, if the limit is a number of at most 64 bits, as in the code.
 -- Where the form is refused, the functions that have ended are within the limit, no two have one key, and the cause is

@@ -11,12 +11,12 @@ use Rattle.rhai_grammar.specs.Contexts.{Context, nothing_known, nothing_live}
 use Rattle.rhai_grammar.specs.Delivered.{Ends, Mode, Point}
 use Rattle.rhai_grammar.specs.Demands.{Met, Missed}
 use Rattle.rhai_grammar.specs.Libraries.{Ended, Library}
-use Rattle.rhai_grammar.specs.Rows.{unread}
-use Rattle.rhai_grammar.specs.RowsOfEntries.{any_functions}
 use Rattle.rhai_grammar.specs.Trees.{function_called}
 use Rattle.rhai_grammar.specs.declared.filter.ExprFilter.TheVariants.{All}
-use Rattle.rhai_reading.specs.Reading.{Goal, Whole, Script}
-use Rattle.rhai_productions.specs.Promised.{Written, written, tree_of, Unwritten, unwritten}
+use Rattle.rhai_grammar.specs.EntryContexts.{any_functions}
+use Rattle.rhai_grammar.specs.RowStreams.{unread}
+use Rattle.rhai_grammar.specs.Goals.{Goal, Whole, Script}
+use Rattle.rhai_grammar.specs.Promises.{Written, written, tree_of, Unwritten, unwritten}
 
 -- ---- what is read
 
@@ -53,7 +53,7 @@ context_of e flags options = record {
   begun = 0;
 }
 
--- what an engine reads at its two entries: one expression, and a script
+-- what an engine reads at its two kinds of entry points: one expression, and a script
 abbrev pub expression_by : Engine → Goal
 expression_by e = Whole (context_of e 17 e.for_expressions) nothing_live
 

@@ -1,11 +1,11 @@
 -- Laws on how deep forms are, and readers: no form that fits is deeper than the limits allow, and no reader either.
 use Rattle.std.specs.Prelude.{ℕ, ◌+◌, ◌*◌, ◌^◌, ◌<◌, ◌≤◌, max}
 use Rattle.rhai_grammar.specs.Prelude.{Context, Live, Met, Point}
-use Rattle.rhai_reading.specs.Reading.{Goal, Whole, Script}
+use Rattle.rhai_grammar.specs.Goals.{Goal, Whole, Script}
 use Rattle.rhai_reading.specs.Running.{Done, Out, Progress, Refused, Unfinished, result_of}
-use Rattle.rhai_productions.specs.Rules.{production}
-use Rattle.rhai_productions.specs.Derived as D
-use Rattle.rhai_productions.specs.Promised.{Written, written}
+use Rattle.rhai_grammar.specs.Rules.{production}
+use Rattle.rhai_grammar.specs.Forms as D
+use Rattle.rhai_grammar.specs.Promises.{Written, written}
 
 -- There is a limit on the depth, and one on that of functions; each is a number of at most 64 bits, as in the code.
 pub record IsLimited (context : Context) : Type 0 where

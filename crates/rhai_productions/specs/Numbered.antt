@@ -13,11 +13,11 @@ use Rattle.rhai_grammar.specs.declared.role.Bars.{Bars}
 use Rattle.rhai_grammar.specs.declared.role.Bars.TheVariants as bars
 use Rattle.rhai_grammar.proofs.NumberSteps.{AllLinks, IsCollected}
 use Rattle.rhai_reading.specs.Reading as R
-use Rattle.rhai_reading.specs.Reading.{Goal, Val, Whole, Script}
-use Rattle.rhai_productions.specs.Rules.{production}
-use Rattle.rhai_productions.specs.Rules as P
-use Rattle.rhai_productions.specs.Derived as D
-use Rattle.rhai_productions.specs.Derived.{apart, form, knows, must, part}
+use Rattle.rhai_grammar.specs.Goals.{Goal, Val, Whole, Script}
+use Rattle.rhai_grammar.specs.Rules.{production}
+use Rattle.rhai_grammar.specs.Rules as P
+use Rattle.rhai_grammar.specs.Forms as D
+use Rattle.rhai_grammar.specs.Forms.{apart, form, knows, must, part}
 
 -- the names of the live slots
 abbrev pub names : Live → List Text

@@ -3,11 +3,11 @@ use Rattle.std.specs.Prelude.{◌≡◌, ℕ, Bool, false, List}
 use Rattle.rhai_grammar.specs.Prelude.{Lexeme, Position, Use, Library, Context, Point, Met, Nothing}
 use Rattle.rhai_grammar.specs.Settings.{in_closure}
 use Rattle.rhai_reading.specs.Reading as R
-use Rattle.rhai_reading.specs.Reading.{Goal, Val}
-use Rattle.rhai_productions.specs.Schema.{Production, Seen}
-use Rattle.rhai_productions.specs.Schema as S
-use Rattle.rhai_productions.specs.Rules.{production}
-use Rattle.rhai_productions.specs.Derived as D
+use Rattle.rhai_grammar.specs.Goals.{Goal, Val}
+use Rattle.rhai_grammar.specs.Productions.{Production, Seen}
+use Rattle.rhai_grammar.specs.Productions as S
+use Rattle.rhai_grammar.specs.Rules.{production}
+use Rattle.rhai_grammar.specs.Forms as D
 
 -- `Outside` holds of goals that are read outside of closures.
 module _ (Outside : Goal → Type 0) where

@@ -1,15 +1,15 @@
 -- Runs: operands that are joined by operators as their strengths say. Forms read the same with the same trees.
 use Rattle.std.specs.Prelude.{Bool, true, Option, Some, None}
-use Rattle.rhai_grammar.specs.Prelude.{Lexeme, Position, Context, Live, Node, has_room, level_up, refusal, position_of}
+use Rattle.rhai_grammar.specs.Prelude.{Lexeme, Position, Context, Live, Node, may_raise, level_up, refusal, position_of}
 use Rattle.rhai_grammar.specs.Prelude.{operator_tree, boolean_holds, mismatched, Demands, ◌▸◌, Tok, Next, Test, Shape}
-use Rattle.rhai_grammar.specs.Prelude.{Met, Point, item, code, follower_of, place_after}
+use Rattle.rhai_grammar.specs.Prelude.{Met, Point, item, code, follower_of, role_after}
 use Rattle.rhai_grammar.specs.Causes as cause
 use Rattle.rhai_grammar.specs.Strengths.{left_of, right_of, is_operator}
-use Rattle.rhai_grammar.specs.Verdicts.{anything, operator_known, run_ends, room_due}
+use Rattle.rhai_grammar.specs.Verdicts.{anything, operator_known, run_ends, raise_due}
 use Rattle.rhai_grammar.specs.declared.filter.ExprFilter.{ExprFilter}
-use Rattle.rhai_reading.specs.Reading.{Operand, RightOperand, Expression}
-use Rattle.rhai_productions.specs.Rules.{production}
-use Rattle.rhai_productions.specs.Derived.{Form, demands}
+use Rattle.rhai_grammar.specs.Goals.{Operand, RightOperand, Expression}
+use Rattle.rhai_grammar.specs.Rules.{production}
+use Rattle.rhai_grammar.specs.Forms.{Form, demands}
 
 -- the place of a run
 pub data Side : Type 0 where
@@ -20,7 +20,7 @@ pub data Side : Type 0 where
 -- a first operand there, and what it demands
 abbrev pub First : Side → Context → Live → Node → Type 0
 First Outermost c w x = Form production (Operand c w) x
-First (RightOf op d at) c w x = Form production (RightOperand c w (place_after op)) x
+First (RightOf op d at) c w x = Form production (RightOperand c w (role_after op)) x
 
 abbrev pub first_demands : (side : Side) (c : Context) (w : Live) (x : Node) → First side c w x → Demands → Demands
 first_demands Outermost c w x f more = demands production f more
@@ -29,7 +29,7 @@ first_demands (RightOf op d at) c w x f more = demands production f more
 -- on the right of an operator the level is raised after the first operand
 abbrev pub raise_after : Side → Demands → Demands
 raise_after Outermost more = more
-raise_after (RightOf op c at) more = Test (has_room c) (refusal cause.ExprTooDeep at) ▸ more
+raise_after (RightOf op c at) more = Test (may_raise c) (refusal cause.ExprTooDeep at) ▸ more
 
 -- The operator may have such a run on its left, of which this operator is at the top; and it may be in a run on this
 -- side of another.
@@ -68,7 +68,7 @@ run_demands {filter = filter} (binary {side = side} {t = t} {l = x} {r = y} op a
 -- an expression as a run: the level is raised at its first token, and no operator follows it
 abbrev pub expressed : (c : Context) {after : Context} {w : Live} {at : Position} {top : Option Lexeme} {x : Node}
     → Run c.filter w (level_up c) (level_up c) Outermost after at top x → Demands → Demands
-expressed c f more = Next (room_due c) ▸ run_demands f (Next (run_ends c.filter) ▸ more)
+expressed c f more = Next (raise_due c) ▸ run_demands f (Next (run_ends c.filter) ▸ more)
 
 -- an expression as a run of this tree
 pub record AsRun (c : Context) (w : Live) (x : Node) (k : Demands) (s t : Point) : Type 0 where

@@ -3,12 +3,12 @@ use Rattle.std.specs.Prelude.{◌≡◌, ℕ, List}
 use Rattle.rhai_lower.specs.Nodes as node
 use Rattle.rhai_grammar.specs.Prelude.{Lexeme, Text, names_of, Context, Live, Node, node_shape}
 use Rattle.rhai_grammar.specs.Shapes.{statements_shape}
-use Rattle.rhai_reading.specs.Reading.{Goal, Val, Expression, Script}
-use Rattle.rhai_productions.specs.Schema.{Production}
-use Rattle.rhai_productions.specs.Rules.{production}
-use Rattle.rhai_productions.specs.Derived as F
-use Rattle.rhai_productions.specs.Derived.{given, take, this, if_so, if_not, choose, here, must, knows, adds, uses}
-use Rattle.rhai_productions.specs.Derived.{captures, part, literal, apart, in_text, form}
+use Rattle.rhai_grammar.specs.Goals.{Goal, Val, Expression, Script}
+use Rattle.rhai_grammar.specs.Productions.{Production}
+use Rattle.rhai_grammar.specs.Rules.{production}
+use Rattle.rhai_grammar.specs.Forms as F
+use Rattle.rhai_grammar.specs.Forms.{given, take, this, if_so, if_not, choose, here, must, knows, adds, uses}
+use Rattle.rhai_grammar.specs.Forms.{captures, part, literal, apart, in_text, form}
 
 -- a form without positions: tokens, ways, parts, and what closures capture
 pub data Code : Type 0 where

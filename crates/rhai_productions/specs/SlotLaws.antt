@@ -11,10 +11,10 @@ use Rattle.rhai_grammar.specs.declared.role.Beginning.TheVariants as begin
 use Rattle.rhai_grammar.specs.declared.role.Closing.{Closing}
 use Rattle.rhai_grammar.specs.declared.role.Construct.{Construct as Kind}
 use Rattle.rhai_grammar.specs.declared.role.StatementStart.TheVariants as start
-use Rattle.rhai_reading.specs.Goals as goal
-use Rattle.rhai_productions.specs.Rules as P
-use Rattle.rhai_productions.specs.Rules.{production}
-use Rattle.rhai_productions.specs.Derived as D
+use Rattle.rhai_grammar.specs.Goals as goal
+use Rattle.rhai_grammar.specs.Rules as P
+use Rattle.rhai_grammar.specs.Rules.{production}
+use Rattle.rhai_grammar.specs.Forms as D
 
 -- This holds of each name that is read as an operand: with this number in its tree, and before that point.
 abbrev pub OfNames : (Live → (name : Text) → Option ℕ → Point → Type 0) → Type 0

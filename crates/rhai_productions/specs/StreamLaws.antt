@@ -2,13 +2,12 @@
 use Rattle.std.specs.Prelude.{◌≡◌}
 use Rattle.rhai_lower.specs.declared.position.Position.{Position}
 use Rattle.rhai_grammar.specs.Prelude.{Context, Live, Point, Met, Nothing}
-use Rattle.rhai_grammar.specs.Delivered.{Ends}
+use Rattle.rhai_grammar.specs.Delivered.{Ends, IsDelivered}
 use Rattle.rhai_grammar.specs.Laws.{AreFair}
-use Rattle.rhai_grammar.specs.Spelling.{IsDelivered}
-use Rattle.rhai_reading.specs.Reading.{Goal, Val, Whole, Script}
-use Rattle.rhai_productions.specs.Rules.{production}
-use Rattle.rhai_productions.specs.Derived as D
-use Rattle.rhai_productions.specs.Promised.{written}
+use Rattle.rhai_grammar.specs.Goals.{Goal, Val, Whole, Script}
+use Rattle.rhai_grammar.specs.Rules.{production}
+use Rattle.rhai_grammar.specs.Forms as D
+use Rattle.rhai_grammar.specs.Promises.{written}
 
 -- In no form is a token both required and refused at one place, so a form that fits misses no demand.
 abbrev pub FormsAreFair : Type 0

@@ -1,9 +1,9 @@
 -- Which productions stop at the last token only where that token is refused.
 use Rattle.std.specs.Prelude.{◌≡◌, ℕ, Bool, false, List}
 use Rattle.rhai_grammar.specs.Prelude.{Lexeme, Position, Use, is_at_last}
-use Rattle.rhai_reading.specs.Reading.{Val}
-use Rattle.rhai_productions.specs.Schema.{Production, Seen}
-use Rattle.rhai_productions.specs.Schema as S
+use Rattle.rhai_grammar.specs.Goals.{Val}
+use Rattle.rhai_grammar.specs.Productions.{Production, Seen}
+use Rattle.rhai_grammar.specs.Productions as S
 
 -- What is refused by a test is none of the errors that stand at the last token seen: it has a position of its own.
 abbrev pub Tidy : {A : Type 0} → Production A → Type 0

@@ -2,12 +2,12 @@
 use Rattle.std.specs.Prelude.{◌≡◌, ◌&&◌, not, ℕ, Bool, List}
 use Rattle.rhai_grammar.specs.Prelude.{Lexeme, Position, Use, Library, Context, Live, excludes_use}
 use Rattle.rhai_grammar.specs.Settings.{in_closure}
-use Rattle.rhai_grammar.specs.UsesOfForms.{is_free}
+use Rattle.rhai_grammar.specs.Events.{is_free}
 use Rattle.rhai_grammar.specs.declared.role.Bars.{Bars}
-use Rattle.rhai_reading.specs.Reading.{Val, Primary, Closure}
-use Rattle.rhai_productions.specs.Schema.{Production, Seen}
-use Rattle.rhai_productions.specs.Schema as S
-use Rattle.rhai_productions.specs.Rules.{production}
+use Rattle.rhai_grammar.specs.Goals.{Val, Primary, Closure}
+use Rattle.rhai_grammar.specs.Productions.{Production, Seen}
+use Rattle.rhai_grammar.specs.Productions as S
+use Rattle.rhai_grammar.specs.Rules.{production}
 
 module _ (context : Context) (live : Live) where
   -- Each use in a production is captured exactly where the settings are those of a closure, its name is free there, and

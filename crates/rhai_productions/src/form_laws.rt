@@ -1,4 +1,4 @@
-//! Laws of the forms that follow from productions, as contracts of functions that do nothing.
+//! Laws of forms, as contracts of functions that do nothing.
 
 ghost use Rattle.rhai_productions.specs.ChainForms.{ChainsAreJoined};
 ghost use Rattle.rhai_productions.specs.ClosureLaws.{CapturedAreUsed, ParametersAreCaptured};
@@ -7,14 +7,15 @@ ghost use Rattle.rhai_productions.specs.EventLaws.{FormsLeaveTheirEvents};
 ghost use Rattle.rhai_productions.specs.LibraryLaws.{LibrariesStayOrderly};
 ghost use Rattle.rhai_productions.specs.NestLaws.{FormsNestWithin, ReadersNestWithin};
 ghost use Rattle.rhai_productions.specs.Numbered.{TreesAreWellNumbered};
-ghost use Rattle.rhai_productions.specs.PlaceLaws.{RefusalsStandAtTokens};
+ghost use Rattle.rhai_productions.specs.PositionLaws.{RefusalsStandAtTokens};
 ghost use Rattle.rhai_productions.specs.Quiet.{NothingIsCaptured};
-ghost use Rattle.rhai_productions.specs.Rules.{production};
+ghost use Rattle.rhai_grammar.specs.Rules.{production};
 ghost use Rattle.rhai_productions.specs.Runs.{ExpressionsAreRuns, RunsAreExpressions};
 ghost use Rattle.rhai_productions.specs.Shaped.{TreesKeepShape};
 ghost use Rattle.rhai_productions.specs.SlotLaws.{NoSlot, NumberedSlot, ScopesClose};
 ghost use Rattle.rhai_productions.specs.StartLaws.{StartsOfExpressions};
 ghost use Rattle.rhai_productions.specs.StreamLaws.{FormsAreFair, StreamsAreWhole};
+ghost use Rattle.rhai_productions.specs.UseLaws.{FunctionsReadTheirUses};
 ghost use Rattle.rhai_productions.specs.Watched.{NamesAreCaptured};
 
 /// A form that fits is spelled by the tokens that were taken, and leaves the functions that end in it and its free
@@ -25,7 +26,7 @@ pub fn forms_leave_their_events()
 {}
 
 /// Whichever demand a form misses, the error stands at a token that was taken, or at the next one.
-#[tactic(auto, using(crate::proofs::Places::refusals_stand_at_tokens))]
+#[tactic(auto, using(crate::proofs::Positions::refusals_stand_at_tokens))]
 pub fn refusals_stand_at_tokens()
     ensures { RefusalsStandAtTokens }
 {}
@@ -142,13 +143,19 @@ pub fn runs_are_expressions()
 {}
 
 /// Where there are limits on depth, no form that fits is deeper than they allow.
-#[tactic(auto, using(crate::proofs::RoomsOfGoals::forms_nest_within))]
+#[tactic(auto, using(crate::proofs::HeightsOfGoals::forms_nest_within))]
 pub fn forms_nest_within()
     ensures { FormsNestWithin }
 {}
 
 /// Where there are limits on depth, no more readers are active at once than they allow, also after a refusal.
-#[tactic(auto, using(crate::proofs::ReaderRooms::readers_nest_within))]
+#[tactic(auto, using(crate::proofs::ReaderHeights::readers_nest_within))]
 pub fn readers_nest_within()
     ensures { ReadersNestWithin }
+{}
+
+/// The body of a function or closure reads the names that it uses where no live slot has them, and no others.
+#[tactic(auto, using(crate::proofs::Uses::functions_read_their_uses))]
+pub fn functions_read_their_uses()
+    ensures { FunctionsReadTheirUses }
 {}

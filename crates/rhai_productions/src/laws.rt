@@ -1,6 +1,6 @@
 //! Laws of the productions, as contracts of functions that do nothing.
 
-ghost use Rattle.rhai_productions.specs.Laws.{EntriesArePromised, FormsAgree, FormsAreComplete, FormsAreSound};
+ghost use Rattle.rhai_productions.specs.Laws.{EntriesArePromised, FormsAreComplete, FormsAreSound};
 ghost use Rattle.rhai_productions.specs.Laws.{FormsHaveOneTree, FormsNestReaders, ProductionsAreRead};
 
 /// Each production is read as the reading program says: for all goals but six by the very same term, and for these by
@@ -27,12 +27,6 @@ pub fn forms_are_complete()
 #[tactic(auto, using(crate::proofs::LawLemmas::forms_have_one_tree))]
 pub fn forms_have_one_tree()
     ensures { FormsHaveOneTree }
-{}
-
-/// The forms that follow from productions are written where those of `rhai_grammar` are, and have the same trees.
-#[tactic(auto, using(crate::proofs::LawLemmas::forms_agree))]
-pub fn forms_agree()
-    ensures { FormsAgree }
 {}
 
 /// After acceptance readers were nested at least as deeply as the form is deep.

@@ -1,12 +1,11 @@
 -- How a reader runs, and how deep it is, step by step. Nothing here speaks of the grammar.
-use Rattle.std.proofs.Common.{◌≡◌, ℕ, ◌+◌, ◌≤◌, Bool, true, false, max, refl, sym, subst, List, [], arith}
-use Rattle.std.proofs.Common.{if◌then◌else◌}
+use Rattle.std.proofs.Common.{◌≡◌, ℕ, ◌+◌, ◌≤◌, Bool, true, false, max, refl, List, [], arith}
 use Rattle.rhai_grammar.specs.Prelude.{Lexeme, Sign, Position, Item, item, is_memory, is_text, Ended, Library, Use}
 use Rattle.rhai_grammar.specs.Prelude.{noted}
 use Rattle.rhai_lower.specs.declared.token.Token.TheVariants as token
-use Rattle.rhai_reading.specs.Histories.{State, adding, after_brace, asked, looking, taking, with_captured, Outcome}
+use Rattle.rhai_reading.specs.Histories.{State, adding, after_brace, next_item, after_peek, after_take, with_captured, Outcome}
 use Rattle.rhai_reading.specs.Histories.{Done, Runs}
-use Rattle.rhai_reading.specs.Nesting.{is_counted}
+use Rattle.rhai_grammar.specs.Goals.{is_counted}
 use Rattle.rhai_reading.specs.Reading.{Goal, Val, Prog, Ret, Peek, Take, TakeText, Know, Add, Note, Call, CallLiteral}
 use Rattle.rhai_reading.specs.Reading.{CallApart, body}
 use Rattle.rhai_reading.proofs.Dives.{Dives, dives_add, dives_apart, dives_call, dives_counted, dives_know}
@@ -21,21 +20,21 @@ pub record Deep {A : Type 0} (D : ℕ → ℕ) (p : Prog A) (s : State) (o : Out
   pub dives : Dives D p s
 
 module _ {A : Type 0} {D : ℕ → ℕ} {s : State} {o : Outcome A} where
-  pub deep_peek : {k : Lexeme → Position → Prog A} (i : Item) → asked s ≡ i → is_memory i.lexeme ≡ false
-      → Deep D (k i.lexeme i.at) (looking s) o → Deep D (Peek k) s o
+  pub deep_peek : {k : Lexeme → Position → Prog A} (i : Item) → next_item s ≡ i → is_memory i.lexeme ≡ false
+      → Deep D (k i.lexeme i.at) (after_peek s) o → Deep D (Peek k) s o
   deep_peek i e f r = record { runs = runs_peek i e f r.runs; dives = dives_peek i e f r.dives }
 
-  pub deep_look : {k : Lexeme → Position → Prog A} → is_memory (asked s).lexeme ≡ false
-      → Deep D (k (asked s).lexeme (asked s).at) (looking s) o → Deep D (Peek k) s o
-  deep_look f r = deep_peek (asked s) refl f r
+  pub deep_look : {k : Lexeme → Position → Prog A} → is_memory (next_item s).lexeme ≡ false
+      → Deep D (k (next_item s).lexeme (next_item s).at) (after_peek s) o → Deep D (Peek k) s o
+  deep_look f r = deep_peek (next_item s) refl f r
 
-  pub deep_take : {p : Prog A} (i : Item) → asked s ≡ i → is_memory i.lexeme ≡ false → Deep D p (taking s) o
+  pub deep_take : {p : Prog A} (i : Item) → next_item s ≡ i → is_memory i.lexeme ≡ false → Deep D p (after_take s) o
       → Deep D (Take p) s o
   deep_take i e f r = record { runs = runs_take i e f r.runs; dives = dives_take i e f r.dives }
 
   pub deep_text : {k : Position → Lexeme → Position → Prog A} (p : Position) (i : Item)
-      → asked s ≡ item (Sign token.RightBrace) p → asked (after_brace s) ≡ i → is_text i.lexeme ≡ true
-      → is_memory i.lexeme ≡ false → Deep D (k p i.lexeme i.at) (taking (after_brace s)) o → Deep D (TakeText k) s o
+      → next_item s ≡ item (Sign token.RightBrace) p → next_item (after_brace s) ≡ i → is_text i.lexeme ≡ true
+      → is_memory i.lexeme ≡ false → Deep D (k p i.lexeme i.at) (after_take (after_brace s)) o → Deep D (TakeText k) s o
   deep_text p i e f is can r =
       record { runs = runs_text p i e f is can r.runs; dives = dives_text p i e f is can r.dives }
 
@@ -48,12 +47,6 @@ module _ {A : Type 0} {D : ℕ → ℕ} {s : State} {o : Outcome A} where
   pub deep_note : {p : Prog A} (b : Bool) (u : Use) → Deep D p (with_captured (noted b u s.point.captured) s) o
       → Deep D (Note b u p) s o
   deep_note b u r = record { runs = runs_note b u r.runs; dives = dives_note b u r.dives }
-
-  pub deep_then : {b : Bool} {p : Prog A} (q : Prog A) → b ≡ true → Deep D p s o → Deep D (if b then p else q) s o
-  deep_then {p = p} q e h = subst (λ c. Deep D (if c then p else q) s o) (sym e) h
-
-  pub deep_else : {b : Bool} {q : Prog A} (p : Prog A) → b ≡ false → Deep D q s o → Deep D (if b then p else q) s o
-  deep_else {q = q} p e h = subst (λ c. Deep D (if c then p else q) s o) (sym e) h
 
   -- what is deep is less deep too
   pub deep_enough : {E : ℕ → ℕ} {p : Prog A} → ((z : ℕ) → E z ≤ D z) → Deep D p s o → Deep E p s o
@@ -90,7 +83,3 @@ module _ {A : Type 0} {E : ℕ → ℕ} (d : ℕ) (g : Goal) (is : is_counted g 
     runs = runs_call_literal g k a.runs b.runs;
     dives = dives_literal d is (omega arith) a.runs a.dives b.dives;
   }
-
-pub deep_tail : {D : ℕ → ℕ} (g : Goal) {s t : State} {v : Val g} → Deep D (body g) s (Done v t)
-    → Deep D (Call g (λ x. Ret x)) s (Done v t)
-deep_tail g {t = t} {v = v} r = deep_call g (λ x. Ret x) r (deep_ret v t)

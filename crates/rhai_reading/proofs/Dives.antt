@@ -11,10 +11,11 @@ use Rattle.rhai_grammar.specs.Cursors as C
 use Rattle.rhai_reading.specs.Histories as H
 use Rattle.rhai_reading.specs.Histories.{State, Runs}
 use Rattle.rhai_reading.proofs.Joins.{Finished, Rest, flat, forget, level_calls, rest, unnested}
-use Rattle.rhai_reading.specs.Nesting.{Nesting, entered, is_counted}
-use Rattle.rhai_reading.specs.Running.{Caller, Done, Out, Progress, Refused, Unfinished, after_brace, and_then, asked}
-use Rattle.rhai_reading.specs.Running.{adding, entering, exec, left_so, level, looking, need, nested, only_less, recast}
-use Rattle.rhai_reading.specs.Running.{result_of, taking, with_captured, text_from}
+use Rattle.rhai_grammar.specs.Goals.{is_counted}
+use Rattle.rhai_reading.specs.Nesting.{Nesting, entered}
+use Rattle.rhai_reading.specs.Running.{Caller, Done, Out, Progress, Refused, Unfinished, after_brace, and_then, next_item}
+use Rattle.rhai_reading.specs.Running.{adding, entering, exec, left_so, level, after_peek, need, nested, only_less, recast}
+use Rattle.rhai_reading.specs.Running.{result_of, after_take, with_captured, text_from}
 use Rattle.rhai_lower.specs.declared.token.Token.TheVariants as token
 use Rattle.rhai_reading.proofs.Grows.{AllGrow, Goes, Grows, GrowsSo, call_grows, goes_less, less_grows, level_grows}
 use Rattle.rhai_reading.proofs.Grows.{one_deeper, recast_grows}
@@ -55,53 +56,53 @@ shallower {D = D} {E = E} le r = record {
 pub dives_ret : {A : Type 0} (x : A) (s : State) → Dives (λ z. z) (Ret x) s
 dives_ret x s = record { dives = λ n g u t a z e go h. h }
 
-same_item : (s : State) (t : Progress) → rest s ≡ unnested t → H.asked s ≡ asked t
-same_item s t e = ap (λ (r : Rest). C.asked r.cursor) e
+same_item : (s : State) (t : Progress) → rest s ≡ unnested t → H.next_item s ≡ next_item t
+same_item s t e = ap (λ (r : Rest). C.next_item r.cursor) e
 
 -- a token that is looked at, or taken
-pub dives_peek : {A : Type 0} {D : ℕ → ℕ} {k : Lexeme → Position → Prog A} {s : State} (i : Item) → H.asked s ≡ i
-    → is_memory i.lexeme ≡ false → Dives D (k i.lexeme i.at) (H.looking s) → Dives D (Peek k) s
+pub dives_peek : {A : Type 0} {D : ℕ → ℕ} {k : Lexeme → Position → Prog A} {s : State} (i : Item) → H.next_item s ≡ i
+    → is_memory i.lexeme ≡ false → Dives D (k i.lexeme i.at) (H.after_peek s) → Dives D (Peek k) s
 dives_peek {A} {D} {k} {s} i here readable r = record {
   dives = λ n g u t a z e go h.
       let call = only_less (level n) g u in
-      let on = r.dives n g u (looking t) a z (ap (λ (r : Rest). record r { cursor = C.looking r.cursor }) e) go h in
-      subst (λ (j : Item). High (a + D z) (if is_memory j.lexeme then Refused out_of_memory (looking t)
-      else exec call (k j.lexeme j.at) (looking t))) (sym here ∙ same_item s t e)
-      (subst (λ b. High (a + D z) (if b then Refused out_of_memory (looking t)
-      else exec call (k i.lexeme i.at) (looking t))) (sym readable) on);
+      let on = r.dives n g u (after_peek t) a z (ap (λ (r : Rest). record r { cursor = C.after_peek r.cursor }) e) go h in
+      subst (λ (j : Item). High (a + D z) (if is_memory j.lexeme then Refused out_of_memory (after_peek t)
+      else exec call (k j.lexeme j.at) (after_peek t))) (sym here ∙ same_item s t e)
+      (subst (λ b. High (a + D z) (if b then Refused out_of_memory (after_peek t)
+      else exec call (k i.lexeme i.at) (after_peek t))) (sym readable) on);
 }
 
-pub dives_take : {A : Type 0} {D : ℕ → ℕ} {p : Prog A} {s : State} (i : Item) → H.asked s ≡ i
-    → is_memory i.lexeme ≡ false → Dives D p (H.taking s) → Dives D (Take p) s
+pub dives_take : {A : Type 0} {D : ℕ → ℕ} {p : Prog A} {s : State} (i : Item) → H.next_item s ≡ i
+    → is_memory i.lexeme ≡ false → Dives D p (H.after_take s) → Dives D (Take p) s
 dives_take {A} {D} {p} {s} i here readable r = record {
   dives = λ n g u t a z e go h.
       let call = only_less (level n) g u in
-      let on = r.dives n g u (taking t) a z (ap (λ (r : Rest). record r { cursor = C.taking r.cursor }) e) go h in
-      subst (λ b. High (a + D z) (if b then Refused out_of_memory (looking t) else exec call p (taking t)))
+      let on = r.dives n g u (after_take t) a z (ap (λ (r : Rest). record r { cursor = C.after_take r.cursor }) e) go h in
+      subst (λ b. High (a + D z) (if b then Refused out_of_memory (after_peek t) else exec call p (after_take t)))
       (sym readable ∙ ap (λ (i : Item). is_memory i.lexeme) (sym here ∙ same_item s t e)) on;
 }
 
 -- a `}` and the text after it
 pub dives_text : {A : Type 0} {D : ℕ → ℕ} {k : Position → Lexeme → Position → Prog A} {s : State} (p : Position) (i : Item)
-    → H.asked s ≡ item (Sign token.RightBrace) p → H.asked (H.after_brace s) ≡ i → is_text i.lexeme ≡ true
-    → is_memory i.lexeme ≡ false → Dives D (k p i.lexeme i.at) (H.taking (H.after_brace s)) → Dives D (TakeText k) s
+    → H.next_item s ≡ item (Sign token.RightBrace) p → H.next_item (H.after_brace s) ≡ i → is_text i.lexeme ≡ true
+    → is_memory i.lexeme ≡ false → Dives D (k p i.lexeme i.at) (H.after_take (H.after_brace s)) → Dives D (TakeText k) s
 dives_text {A} {D} {k} {s} p i here there is readable r = record {
   dives = λ n g u t a z e go h.
       let call = only_less (level n) g u in
       let v = after_brace t in
       let f = ap (λ (r : Rest). record r { cursor = C.after_brace r.cursor }) e in
-      let on = r.dives n g u (taking v) a z (ap (λ (r : Rest). record r { cursor = C.taking r.cursor }) f) go h in
-      subst (λ (j : Item). High (a + D z) (if is_memory j.lexeme then Refused out_of_memory (looking t)
+      let on = r.dives n g u (after_take v) a z (ap (λ (r : Rest). record r { cursor = C.after_take r.cursor }) f) go h in
+      subst (λ (j : Item). High (a + D z) (if is_memory j.lexeme then Refused out_of_memory (after_peek t)
       else if is_due RightBrace j.lexeme then text_from (λ l q w. exec call (k j.at l q) w) v
-      else Refused (refusal (not_due RightBrace j.lexeme) j.at) (looking t))) (sym here ∙ same_item s t e)
-      (subst (λ (j : Item). High (a + D z) (if is_memory j.lexeme then Refused out_of_memory (looking v)
-      else if is_text j.lexeme then exec call (k p j.lexeme j.at) (taking v)
-      else Refused (refusal (unexpected j.lexeme) j.at) (looking v))) (sym there ∙ same_item (H.after_brace s) v f)
-      (subst (λ b. High (a + D z) (if b then Refused out_of_memory (looking v)
-      else if is_text i.lexeme then exec call (k p i.lexeme i.at) (taking v)
-      else Refused (refusal (unexpected i.lexeme) i.at) (looking v))) (sym readable)
-      (subst (λ b. High (a + D z) (if b then exec call (k p i.lexeme i.at) (taking v)
-      else Refused (refusal (unexpected i.lexeme) i.at) (looking v))) (sym is) on)));
+      else Refused (refusal (not_due RightBrace j.lexeme) j.at) (after_peek t))) (sym here ∙ same_item s t e)
+      (subst (λ (j : Item). High (a + D z) (if is_memory j.lexeme then Refused out_of_memory (after_peek v)
+      else if is_text j.lexeme then exec call (k p j.lexeme j.at) (after_take v)
+      else Refused (refusal (unexpected j.lexeme) j.at) (after_peek v))) (sym there ∙ same_item (H.after_brace s) v f)
+      (subst (λ b. High (a + D z) (if b then Refused out_of_memory (after_peek v)
+      else if is_text i.lexeme then exec call (k p i.lexeme i.at) (after_take v)
+      else Refused (refusal (unexpected i.lexeme) i.at) (after_peek v))) (sym readable)
+      (subst (λ b. High (a + D z) (if b then exec call (k p i.lexeme i.at) (after_take v)
+      else Refused (refusal (unexpected i.lexeme) i.at) (after_peek v))) (sym is) on)));
 }
 
 -- the functions that have ended, and the names that were used

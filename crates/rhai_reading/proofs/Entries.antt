@@ -10,7 +10,7 @@ use Rattle.rhai_grammar.specs.Promises.{start_of, Saw, IsNamed, IsReadable, HasR
 use Rattle.rhai_reading.specs.Reading.{Goal, Val, Script, Whole, Peek, Prog, body, whole_at}
 use Rattle.rhai_reading.specs.Running as R
 use Rattle.rhai_reading.specs.Running.{Progress, result_of}
-use Rattle.rhai_reading.specs.Histories.{State, and_then, asked, looking, Outcome, Done, Refused, Unfinished, exec}
+use Rattle.rhai_reading.specs.Histories.{State, and_then, next_item, after_peek, Outcome, Done, Refused, Unfinished, exec}
 use Rattle.rhai_reading.specs.Histories.{calls, Runs}
 use Rattle.rhai_reading.proofs.Joins.{Finished, Rest, calls_same, cursor, flat, forget, rest, run_runs, unnested}
 use Rattle.rhai_reading.proofs.Rules.{at}
@@ -58,7 +58,7 @@ pub record Entry {F O : Type 0} (g : Goal) (whole : F → Demands) (stopping : O
         (λ e u. (f : O) × Missed (stopping f) s e u.mode u.point × StandsAtLast e (cursor u)) (calls n g (at s b))
     pub complete : (f : F) (s t : Point) (b : Bool) → Met (whole f) s t
         → (looked : Bool) × Runs (body g) (at s b) (Done (tree f) (at t looked))
-    pub looks : (n : ℕ) (s : State) → IsOther (exec (calls n) (body g) s) → is_memory (asked s).lexeme ≡ false
+    pub looks : (n : ℕ) (s : State) → IsOther (exec (calls n) (body g) s) → is_memory (next_item s).lexeme ≡ false
 
 module _ {F O : Type 0} {g : Goal} {whole : F → Demands} {stopping : O → Demands} {tree : F → Val g}
     (E : Entry g whole stopping tree) where
@@ -121,18 +121,6 @@ refused_came g s left d e =
 pub runs_once : {A : Type 0} {p : Prog A} {s : State} {a b : Outcome A} → Runs p s a → Runs p s b → a ≡ b
 runs_once r w = sym (r.same (r.depth + w.depth) (omega arith)) ∙ w.same (r.depth + w.depth) (omega arith)
 
--- two forms that fit and spell the same stream have one tree
-pub one_tree : {F O : Type 0} {g : Goal} {whole : F → Demands} {stopping : O → Demands} {tree : F → Val g}
-    → Entry g whole stopping tree
-    → (before : Library) (s : Cursor) (a b : F) (after other : Library) → IsWrittenTo whole a before after s
-    → IsWrittenTo whole b before other s → (tree a ≡ tree b) × (after ≡ other)
-one_tree E before s a b after other h k =
-    let first = E.complete a (start_of before s) h.0 s.peeked h.1 in
-    let second = E.complete b (start_of before s) k.0 s.peeked k.1 in
-    let same = runs_once first.1 second.1 in
-    let end : at h.0 first.0 ≡ at k.0 second.0 = cc in
-    (cc, sym h.2 ∙ ap (λ (u : State). u.point.library) end ∙ k.2)
-
 -- A refusal after the tokens seen: the parts of `IsRefused` in the promises, where open forms are of their own type.
 pub record IsRefused {F O : Type 0} (whole : F → Demands) (stopping : O → Demands) (before after : Library)
     (taken : List Taken) (start left : Cursor) (e : Refusal) : Type 0
@@ -158,7 +146,7 @@ saw_begun s left t took is leaves gives =
 readable_begun : (left : Cursor) (t : State) (took : List Taken) → cursor t ≡ left
     → t.point.taken ≡ latest_first took [] → Clear t → IsReadable took left
 readable_begun left t took is history seen =
-    let looked = subst (λ (u : Cursor). u.peeked ≡ true → is_memory (C.asked u).lexeme ≡ false) is seen.peeked in
+    let looked = subst (λ (u : Cursor). u.peeked ≡ true → is_memory (C.next_item u).lexeme ≡ false) is seen.peeked in
     record { tokens = subst Readable history seen.taken; peeked = looked }
 
 -- at the start no token was taken
@@ -300,21 +288,21 @@ module _ {F O : Type 0} {g : Goal} {whole : F → Demands} {stopping : O → Dem
 -- ---- whole expressions and scripts look at the first token
 
 pub whole_looks : (c : Context) (live : Live) (n : ℕ) (s : State) → IsOther (exec (calls n) (body (Whole c live)) s)
-    → is_memory (asked s).lexeme ≡ false
+    → is_memory (next_item s).lexeme ≡ false
 whole_looks c live zero s other = absurd other
-whole_looks c live (suc n) s other = by_test (is_memory (asked s).lexeme) _ other
+whole_looks c live (suc n) s other = by_test (is_memory (next_item s).lexeme) _ other
   where
     by_test : (m : Bool) (o : Outcome Node) → IsOther
-        (and_then (if m then Refused out_of_memory (looking s) else o)
+        (and_then (if m then Refused out_of_memory (after_peek s) else o)
         (λ v u. exec (calls (suc n)) (Peek (whole_at v)) u)) → m ≡ false
     by_test true o h = absurd cc
     by_test false o h = refl
 
 pub list_looks : (c : Context) (live : Live) (n : ℕ) (s : State)
-    → IsOther (exec (calls n) (body (Script c live)) s) → is_memory (asked s).lexeme ≡ false
-list_looks c live n s other = by_test (is_memory (asked s).lexeme) _ other
+    → IsOther (exec (calls n) (body (Script c live)) s) → is_memory (next_item s).lexeme ≡ false
+list_looks c live n s other = by_test (is_memory (next_item s).lexeme) _ other
   where
-    by_test : {A : Type 0} (m : Bool) (o : Outcome A) → IsOther (if m then Refused out_of_memory (looking s) else o)
+    by_test : {A : Type 0} (m : Bool) (o : Outcome A) → IsOther (if m then Refused out_of_memory (after_peek s) else o)
         → m ≡ false
     by_test true o h = absurd cc
     by_test false o h = refl

@@ -5,10 +5,11 @@ use Rattle.rhai_grammar.specs.Prelude.{is_memory, is_due, is_text, noted}
 use Rattle.rhai_grammar.specs.declared.due.DueToken.TheVariants.{RightBrace}
 use Rattle.rhai_reading.specs.Reading.{Goal, Prog, Ret, Fail, Peek, Take, TakeText, Know, Add, Note, Call, CallLiteral}
 use Rattle.rhai_reading.specs.Reading.{CallApart, body}
-use Rattle.rhai_reading.specs.Nesting.{Nesting, entered, is_counted, left_one}
-use Rattle.rhai_reading.specs.Running.{Caller, Done, Out, Progress, Refused, Unfinished, after_brace, and_then, asked}
-use Rattle.rhai_reading.specs.Running.{adding, entering, exec, left_so, level, looking, need, nested, only_less, recast}
-use Rattle.rhai_reading.specs.Running.{taking, with_captured}
+use Rattle.rhai_grammar.specs.Goals.{is_counted}
+use Rattle.rhai_reading.specs.Nesting.{Nesting, entered, left_one}
+use Rattle.rhai_reading.specs.Running.{Caller, Done, Out, Progress, Refused, Unfinished, after_brace, and_then, next_item}
+use Rattle.rhai_reading.specs.Running.{adding, entering, exec, left_so, level, after_peek, need, nested, only_less, recast}
+use Rattle.rhai_reading.specs.Running.{after_take, with_captured}
 
 abbrev pub KeptSo : {A : Type 0} → (ℕ → Nesting → Type 0) → ℕ → Out A → Type 0
 KeptSo P a (Done x t) = P a t.nesting
@@ -52,15 +53,15 @@ module _ (P : ℕ → Nesting → Type 0) (enter : (a : ℕ) (n : Nesting) → P
   exec_keeps call all a (Ret x) s h = h
   exec_keeps call all a (Fail e) s h = h
   exec_keeps call all a (Peek k) s h =
-      one_of a (is_memory (asked s).lexeme) _ _ h (exec_keeps call all a (k (asked s).lexeme (asked s).at) (looking s) h)
+      one_of a (is_memory (next_item s).lexeme) _ _ h (exec_keeps call all a (k (next_item s).lexeme (next_item s).at) (after_peek s) h)
   exec_keeps call all a (Take p) s h =
-      one_of a (is_memory (asked s).lexeme) _ _ h (exec_keeps call all a p (taking s) h)
+      one_of a (is_memory (next_item s).lexeme) _ _ h (exec_keeps call all a p (after_take s) h)
   exec_keeps call all a (TakeText k) s h =
       let u = after_brace s in
-      one_of a (is_memory (asked s).lexeme) _ _ h
-      (one_of a (is_due RightBrace (asked s).lexeme) _ _
-      (one_of a (is_memory (asked u).lexeme) _ _ h (one_of a (is_text (asked u).lexeme) _ _
-      (exec_keeps call all a (k (asked s).at (asked u).lexeme (asked u).at) (taking u) h) h)) h)
+      one_of a (is_memory (next_item s).lexeme) _ _ h
+      (one_of a (is_due RightBrace (next_item s).lexeme) _ _
+      (one_of a (is_memory (next_item u).lexeme) _ _ h (one_of a (is_text (next_item u).lexeme) _ _
+      (exec_keeps call all a (k (next_item s).at (next_item u).lexeme (next_item u).at) (after_take u) h) h)) h)
   exec_keeps call all a (Know k) s h = exec_keeps call all a (k s.library) s h
   exec_keeps call all a (Add ended p) s h = exec_keeps call all a p (adding ended s) h
   exec_keeps call all a (Note captures u p) s h =

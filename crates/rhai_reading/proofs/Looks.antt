@@ -1,10 +1,7 @@
 -- Which token is next at a point, and where the operators of a run continue.
 use Rattle.std.proofs.Common.{◌≡◌, ℕ, Bool, true, false, Option, Some, None, refl, if◌then◌else◌}
-use Rattle.rhai_grammar.specs.Prelude.{Lexeme, Node, Position, Cause, code, Point, next_at, is_memory, Live, Follower}
-use Rattle.rhai_grammar.specs.Prelude.{Operator, Unknown, Other, follower_of, Verdict, Fine, Wrong, Otherwise, verdict}
-use Rattle.rhai_grammar.specs.Prelude.{Height}
-use Rattle.rhai_grammar.specs.declared.filter.ExprFilter.{ExprFilter}
-use Rattle.rhai_reading.specs.Reading.{Goal, BinaryOp}
+use Rattle.rhai_grammar.specs.Prelude.{Lexeme, Position, Cause, code, Point, next_at, is_memory, Follower}
+use Rattle.rhai_grammar.specs.Prelude.{Operator, Unknown, Other, Verdict, Fine, Wrong, Otherwise, verdict}
 
 abbrev pub op_at : Point → Lexeme
 op_at s = (next_at code s).lexeme
@@ -12,27 +9,16 @@ op_at s = (next_at code s).lexeme
 abbrev pub pos_at : Point → Position
 pos_at s = (next_at code s).at
 
--- what stands after an operand, under a filter
-abbrev pub follower_at : ExprFilter → Point → Follower
-follower_at filter s = follower_of filter (op_at s)
-
 abbrev pub operator_in : Follower → Option (ℕ × Bool)
 operator_in (Operator n right) = Some (n, right)
 operator_in (Unknown t) = None
 operator_in Other = None
-
-abbrev pub climb : Height → Live → ℕ → Node → Goal
-climb h w p x = BinaryOp h.settings w h.at p x
 
 -- ---- verdicts that are fine
 
 pub no_other : (b : Bool) {v : Verdict} → (if b then Otherwise else v) ≡ Fine → (b ≡ false) × (v ≡ Fine)
 no_other true e = absurd cc
 no_other false e = (refl, e)
-
-pub no_wrong : (b : Bool) (c : Cause) {v : Verdict} → (if b then Wrong c else v) ≡ Fine → (b ≡ false) × (v ≡ Fine)
-no_wrong true c e = absurd cc
-no_wrong false c e = (refl, e)
 
 pub or_wrong : (b : Bool) (c : Cause) → (if b then Fine else Wrong c) ≡ Fine → b ≡ true
 or_wrong true c e = refl

@@ -4,7 +4,7 @@ use Rattle.std.specs.Prelude.{◌&&◌, None, Some}
 use Rattle.rhai_grammar.specs.Prelude.{Text, Lexeme, Name, text_of, Node, Nodes, position_of, Position, calls, is_name}
 use Rattle.rhai_grammar.specs.Prelude.{qualifies, Refusal, out_of_memory, refusal, Context, Live, left, is_memory}
 use Rattle.rhai_grammar.specs.Prelude.{is_qualified, module_fault, qualified, call_tree, is_variable, no_variable}
-use Rattle.rhai_reading.specs.Running.{Progress, asked, looking, taking, exec, guarded, nested, result_of}
+use Rattle.rhai_reading.specs.Running.{Progress, next_item, after_peek, after_take, exec, guarded, nested, result_of}
 use Rattle.rhai_reading.specs.Reading.{Call, Called, Fail, Path, Peek, Postfix, Prog, Ret, Take, call_at, call_on}
 use Rattle.rhai_reading.specs.Reading.{match_name, path_on, postfix_at, tested}
 use Rattle.rhai_reading.specs.Running as R
@@ -15,61 +15,61 @@ colons_readable : (l : Lexeme) → qualifies l ≡ true → is_memory l ≡ fals
 colons_readable l e = readable qualifies (λ f. refl) l e
 
 -- after the `::`, where a name is due
-path_at : (w : Live) (x : Node) (s : Progress) → qualifies (asked s).lexeme ≡ true
-    → is_memory (asked (taking s)).lexeme ≡ false
-    → let u = taking s in
-    let l = (asked u).lexeme in
+path_at : (w : Live) (x : Node) (s : Progress) → qualifies (next_item s).lexeme ≡ true
+    → is_memory (next_item (after_take s)).lexeme ≡ false
+    → let u = after_take s in
+    let l = (next_item u).lexeme in
     result_of (Path w x) s ≡ exec (guarded (Path w x) s) (if is_name l
-    then Take (path_on w (qualified w.imports x (text_of l) (asked u).at))
-    else Fail (refusal (no_variable l) (asked u).at)) (looking u)
+    then Take (path_on w (qualified w.imports x (text_of l) (next_item u).at))
+    else Fail (refusal (no_variable l) (next_item u).at)) (after_peek u)
 path_at w x s colons named =
     let call = guarded (Path w x) s in
-    let u = taking s in
-    let l = (asked u).lexeme in
+    let u = after_take s in
+    let l = (next_item u).lexeme in
     let k : Text → Position → Prog Node = λ name at. path_on w (qualified w.imports x name at) in
-    let can = colons_readable (asked s).lexeme colons in
+    let can = colons_readable (next_item s).lexeme colons in
     step_path w x s
-    ∙ ap (λ m. if m then R.Refused out_of_memory (looking s) else exec call (Take (match_name k)) (looking s)) can
-    ∙ ap (λ m. if m then R.Refused out_of_memory (looking (looking s)) else exec call (match_name k) u) can
-    ∙ ap (λ m. if m then R.Refused out_of_memory (looking u) else exec call (if is_name l then Take (k (text_of l) (asked u).at) else Fail (refusal (no_variable l) (asked u).at)) (looking u)) named
+    ∙ ap (λ m. if m then R.Refused out_of_memory (after_peek s) else exec call (Take (match_name k)) (after_peek s)) can
+    ∙ ap (λ m. if m then R.Refused out_of_memory (after_peek (after_peek s)) else exec call (match_name k) u) can
+    ∙ ap (λ m. if m then R.Refused out_of_memory (after_peek u) else exec call (if is_name l then Take (k (text_of l) (next_item u).at) else Fail (refusal (no_variable l) (next_item u).at)) (after_peek u)) named
 
 -- One more name of a path was taken, with a look after it.
 pub record Named (name : Text) (at : Position) (s s1 s2 t : Progress) : Type 0 where
-  pub colons : qualifies (asked s).lexeme ≡ true
-  pub took : s1 ≡ taking s
-  pub named : (asked s1).lexeme ≡ Name name
-  pub stands : at ≡ (asked s1).at
-  pub readable : is_memory (asked s1).lexeme ≡ false
-  pub took_on : s2 ≡ taking s1
-  pub readable_on : is_memory (asked s2).lexeme ≡ false
-  pub look_on : t ≡ looking s2
+  pub colons : qualifies (next_item s).lexeme ≡ true
+  pub took : s1 ≡ after_take s
+  pub named : (next_item s1).lexeme ≡ Name name
+  pub stands : at ≡ (next_item s1).at
+  pub readable : is_memory (next_item s1).lexeme ≡ false
+  pub took_on : s2 ≡ after_take s1
+  pub readable_on : is_memory (next_item s2).lexeme ≡ false
+  pub look_on : t ≡ after_peek s2
 
 -- what the reading program does then
 path_named : (w : Live) (x : Node) {name : Text} {at : Position} {s s1 s2 t : Progress} → Named name at s s1 s2 t
     → let y = qualified w.imports x name at in
     result_of (Path w x) s
-    ≡ exec (guarded (Path w x) s) (if qualifies (asked s2).lexeme then Call (Path w y) (λ z. Ret z) else Ret y) t
+    ≡ exec (guarded (Path w x) s) (if qualifies (next_item s2).lexeme then Call (Path w y) (λ z. Ret z) else Ret y) t
 path_named w x {name} {at} {s} {s1} {s2} {t} h =
     let call = guarded (Path w x) s in
-    let u = taking s in
-    let v = taking u in
+    let u = after_take s in
+    let v = after_take u in
     let y = qualified w.imports x name at in
-    let token : (asked u).lexeme ≡ Name name = subst (λ (c : Progress). (asked c).lexeme ≡ Name name) h.took h.named in
-    let there : at ≡ (asked u).at = subst (λ (c : Progress). at ≡ (asked c).at) h.took h.stands in
-    let can : is_memory (asked u).lexeme ≡ false = subst (λ (c : Progress). is_memory (asked c).lexeme ≡ false) h.took h.readable in
-    let on : s2 ≡ v = h.took_on ∙ ap taking h.took in
-    let can_on : is_memory (asked v).lexeme ≡ false = subst (λ (c : Progress). is_memory (asked c).lexeme ≡ false) on h.readable_on in
+    let token : (next_item u).lexeme ≡ Name name = subst (λ (c : Progress). (next_item c).lexeme ≡ Name name) h.took h.named in
+    let there : at ≡ (next_item u).at = subst (λ (c : Progress). at ≡ (next_item c).at) h.took h.stands in
+    let can : is_memory (next_item u).lexeme ≡ false = subst (λ (c : Progress). is_memory (next_item c).lexeme ≡ false) h.took h.readable in
+    let on : s2 ≡ v = h.took_on ∙ ap after_take h.took in
+    let can_on : is_memory (next_item v).lexeme ≡ false = subst (λ (c : Progress). is_memory (next_item c).lexeme ≡ false) on h.readable_on in
     path_at w x s h.colons can
-    ∙ ap (λ l. exec call (if is_name l then Take (path_on w (qualified w.imports x (text_of l) (asked u).at)) else Fail (refusal (no_variable l) (asked u).at)) (looking u)) token
-    ∙ ap (λ m. if m then R.Refused out_of_memory (looking (looking u)) else exec call (path_on w (qualified w.imports x name (asked u).at)) v) can
+    ∙ ap (λ l. exec call (if is_name l then Take (path_on w (qualified w.imports x (text_of l) (next_item u).at)) else Fail (refusal (no_variable l) (next_item u).at)) (after_peek u)) token
+    ∙ ap (λ m. if m then R.Refused out_of_memory (after_peek (after_peek u)) else exec call (path_on w (qualified w.imports x name (next_item u).at)) v) can
     ∙ ap (λ p. exec call (path_on w (qualified w.imports x name p)) v) (sym there)
-    ∙ ap (λ m. if m then R.Refused out_of_memory (looking v) else exec call (if qualifies (asked v).lexeme then Call (Path w y) (λ z. Ret z) else Ret y) (looking v)) can_on
-    ∙ ap (λ (c : Progress). exec call (if qualifies (asked c).lexeme then Call (Path w y) (λ z. Ret z) else Ret y) (looking c)) (sym on)
-    ∙ ap (exec call (if qualifies (asked s2).lexeme then Call (Path w y) (λ z. Ret z) else Ret y)) (sym h.look_on)
+    ∙ ap (λ m. if m then R.Refused out_of_memory (after_peek v) else exec call (if qualifies (next_item v).lexeme then Call (Path w y) (λ z. Ret z) else Ret y) (after_peek v)) can_on
+    ∙ ap (λ (c : Progress). exec call (if qualifies (next_item c).lexeme then Call (Path w y) (λ z. Ret z) else Ret y) (after_peek c)) (sym on)
+    ∙ ap (exec call (if qualifies (next_item s2).lexeme then Call (Path w y) (λ z. Ret z) else Ret y)) (sym h.look_on)
 
 -- the path goes on, or ends
 pub path_goes_on : (w : Live) (x y : Node) {name : Text} {at : Position} {s s1 s2 t : Progress} → Named name at s s1 s2 t
-    → y ≡ qualified w.imports x name at → qualifies (asked s2).lexeme ≡ true → left t.cursor.tokens + 1 ≤ left s.cursor.tokens
+    → y ≡ qualified w.imports x name at → qualifies (next_item s2).lexeme ≡ true → left t.cursor.tokens + 1 ≤ left s.cursor.tokens
     → result_of (Path w x) s ≡ result_of (Path w y) t
 path_goes_on w x y {name} {at} {s} {s1} {s2} {t} h is more less =
     let call = guarded (Path w x) s in
@@ -81,7 +81,7 @@ path_goes_on w x y {name} {at} {s} {s1} {s2} {t} h is more less =
     ∙ ap (λ n. result_of (Path w n) t) (sym is)
 
 pub path_ends : (w : Live) (x y : Node) {name : Text} {at : Position} {s s1 s2 t : Progress} → Named name at s s1 s2 t
-    → y ≡ qualified w.imports x name at → qualifies (asked s2).lexeme ≡ false → result_of (Path w x) s ≡ R.Done y t
+    → y ≡ qualified w.imports x name at → qualifies (next_item s2).lexeme ≡ false → result_of (Path w x) s ≡ R.Done y t
 path_ends w x y {name} {at} {s} {s1} {s2} {t} h is none =
     let call = guarded (Path w x) s in
     let z = qualified w.imports x name at in
@@ -90,70 +90,70 @@ path_ends w x y {name} {at} {s} {s1} {s2} {t} h is none =
     ∙ ap (λ n. R.Done n t) (sym is)
 
 -- another token is refused where a name is due
-pub path_refused : (w : Live) (x : Node) (e : Refusal) (s s1 t : Progress) → qualifies (asked s).lexeme ≡ true → s1 ≡ taking s
-    → is_name (asked s1).lexeme ≡ false → is_memory (asked s1).lexeme ≡ false
-    → e ≡ refusal (no_variable (asked s1).lexeme) (asked s1).at → t ≡ looking s1
+pub path_refused : (w : Live) (x : Node) (e : Refusal) (s s1 t : Progress) → qualifies (next_item s).lexeme ≡ true → s1 ≡ after_take s
+    → is_name (next_item s1).lexeme ≡ false → is_memory (next_item s1).lexeme ≡ false
+    → e ≡ refusal (no_variable (next_item s1).lexeme) (next_item s1).at → t ≡ after_peek s1
     → result_of (Path w x) s ≡ R.Refused e t
 path_refused w x e s s1 t colons took other can is look =
     let call = guarded (Path w x) s in
-    let u = taking s in
-    let l = (asked u).lexeme in
-    let can_on : is_memory l ≡ false = subst (λ (c : Progress). is_memory (asked c).lexeme ≡ false) took can in
-    let none : is_name l ≡ false = subst (λ (c : Progress). is_name (asked c).lexeme ≡ false) took other in
+    let u = after_take s in
+    let l = (next_item u).lexeme in
+    let can_on : is_memory l ≡ false = subst (λ (c : Progress). is_memory (next_item c).lexeme ≡ false) took can in
+    let none : is_name l ≡ false = subst (λ (c : Progress). is_name (next_item c).lexeme ≡ false) took other in
     path_at w x s colons can_on
-    ∙ ap (λ b. exec call (if b then Take (path_on w (qualified w.imports x (text_of l) (asked u).at)) else Fail (refusal (no_variable l) (asked u).at)) (looking u)) none
-    ∙ ap (λ (c : Progress). R.Refused (refusal (no_variable (asked c).lexeme) (asked c).at) (looking c)) (sym took)
-    ∙ ap (λ d. R.Refused d (looking s1)) (sym is)
+    ∙ ap (λ b. exec call (if b then Take (path_on w (qualified w.imports x (text_of l) (next_item u).at)) else Fail (refusal (no_variable l) (next_item u).at)) (after_peek u)) none
+    ∙ ap (λ (c : Progress). R.Refused (refusal (no_variable (next_item c).lexeme) (next_item c).at) (after_peek c)) (sym took)
+    ∙ ap (λ d. R.Refused d (after_peek s1)) (sym is)
     ∙ ap (R.Refused e) (sym look)
 
 -- ---- a name with its path, and what calls it
 
 -- without a path
 pub name_alone : (c : Context) (w : Live) (x : Node) (called : Bool) (s t : Progress) → is_variable x ≡ true
-    → is_memory (asked s).lexeme ≡ false → qualifies (asked s).lexeme ≡ false → called ≡ calls (asked s).lexeme
-    → t ≡ looking s → result_of (Postfix c w x) s ≡ exec (guarded (Postfix c w x) s) (call_on c w x called) t
+    → is_memory (next_item s).lexeme ≡ false → qualifies (next_item s).lexeme ≡ false → called ≡ calls (next_item s).lexeme
+    → t ≡ after_peek s → result_of (Postfix c w x) s ≡ exec (guarded (Postfix c w x) s) (call_on c w x called) t
 name_alone c w x called s t named can none is look =
     let call = guarded (Postfix c w x) s in
-    let l = (asked s).lexeme in
+    let l = (next_item s).lexeme in
     step_postfix c w x s
-    ∙ ap (λ m. if m then R.Refused out_of_memory (looking s) else exec call (postfix_at c w x l) (looking s)) can
-    ∙ ap (λ v. exec call (if v && qualifies l then Call (Path w x) (λ y. Peek (λ m pos. call_at c w y m)) else call_on c w x (v && calls l)) (looking s)) named
-    ∙ ap (λ q. exec call (if q then Call (Path w x) (λ y. Peek (λ m pos. call_at c w y m)) else call_on c w x (calls l)) (looking s)) none
-    ∙ ap (λ b. exec call (call_on c w x b) (looking s)) (sym is)
+    ∙ ap (λ m. if m then R.Refused out_of_memory (after_peek s) else exec call (postfix_at c w x l) (after_peek s)) can
+    ∙ ap (λ v. exec call (if v && qualifies l then Call (Path w x) (λ y. Peek (λ m pos. call_at c w y m)) else call_on c w x (v && calls l)) (after_peek s)) named
+    ∙ ap (λ q. exec call (if q then Call (Path w x) (λ y. Peek (λ m pos. call_at c w y m)) else call_on c w x (calls l)) (after_peek s)) none
+    ∙ ap (λ b. exec call (call_on c w x b) (after_peek s)) (sym is)
     ∙ ap (exec call (call_on c w x called)) (sym look)
 
 -- where a path begins
-scoped_at : (c : Context) (w : Live) (x : Node) (s : Progress) → is_variable x ≡ true → qualifies (asked s).lexeme ≡ true
-    → result_of (Postfix c w x) s ≡ R.and_then (result_of (Path w x) (looking s)) (λ y t.
+scoped_at : (c : Context) (w : Live) (x : Node) (s : Progress) → is_variable x ≡ true → qualifies (next_item s).lexeme ≡ true
+    → result_of (Postfix c w x) s ≡ R.and_then (result_of (Path w x) (after_peek s)) (λ y t.
     exec (guarded (Postfix c w x) s) (Peek (λ m pos. call_at c w y m)) t)
 scoped_at c w x s named colons =
     let call = guarded (Postfix c w x) s in
-    let l = (asked s).lexeme in
+    let l = (next_item s).lexeme in
     let on : Bool → Bool → R.Out Node =
-    λ v q. exec call (if v && q then Call (Path w x) (λ y. Peek (λ m pos. call_at c w y m)) else call_on c w x (v && calls l)) (looking s) in
+    λ v q. exec call (if v && q then Call (Path w x) (λ y. Peek (λ m pos. call_at c w y m)) else call_on c w x (v && calls l)) (after_peek s) in
     step_postfix c w x s
-    ∙ ap (λ m. if m then R.Refused out_of_memory (looking s) else exec call (postfix_at c w x l) (looking s)) (colons_readable l colons)
+    ∙ ap (λ m. if m then R.Refused out_of_memory (after_peek s) else exec call (postfix_at c w x l) (after_peek s)) (colons_readable l colons)
     ∙ ap (λ v. on v (qualifies l)) named
     ∙ ap (on true) colons
-    ∙ ap (λ o. R.and_then o (λ y t. exec call (Peek (λ m pos. call_at c w y m)) t)) (guarded_is (Postfix c w x) s (Path w x) (looking s) (omega arith))
+    ∙ ap (λ o. R.and_then o (λ y t. exec call (Peek (λ m pos. call_at c w y m)) t)) (guarded_is (Postfix c w x) s (Path w x) (after_peek s) (omega arith))
 
 pub name_scoped : (c : Context) (w : Live) (x y : Node) (called : Bool) (s s1 t u : Progress) → is_variable x ≡ true
-    → is_variable y ≡ true → qualifies (asked s).lexeme ≡ true → s1 ≡ looking s → result_of (Path w x) s1 ≡ R.Done y t
-    → is_memory (asked t).lexeme ≡ false → called ≡ calls (asked t).lexeme → u ≡ looking t
+    → is_variable y ≡ true → qualifies (next_item s).lexeme ≡ true → s1 ≡ after_peek s → result_of (Path w x) s1 ≡ R.Done y t
+    → is_memory (next_item t).lexeme ≡ false → called ≡ calls (next_item t).lexeme → u ≡ after_peek t
     → result_of (Postfix c w x) s ≡ exec (guarded (Postfix c w x) s) (call_on c w y called) u
 name_scoped c w x y called s s1 t u named again colons look path can is look_on =
     let call = guarded (Postfix c w x) s in
-    let l = (asked t).lexeme in
+    let l = (next_item t).lexeme in
     scoped_at c w x s named colons
     ∙ ap (λ (v : Progress). R.and_then (result_of (Path w x) v) (λ z t. exec call (Peek (λ m pos. call_at c w z m)) t)) (sym look)
     ∙ ap (λ o. R.and_then o (λ z t. exec call (Peek (λ m pos. call_at c w z m)) t)) path
-    ∙ ap (λ m. if m then R.Refused out_of_memory (looking t) else exec call (call_at c w y l) (looking t)) can
-    ∙ ap (λ v. exec call (call_on c w y (v && calls l)) (looking t)) again
-    ∙ ap (λ b. exec call (call_on c w y b) (looking t)) (sym is)
+    ∙ ap (λ m. if m then R.Refused out_of_memory (after_peek t) else exec call (call_at c w y l) (after_peek t)) can
+    ∙ ap (λ v. exec call (call_on c w y (v && calls l)) (after_peek t)) again
+    ∙ ap (λ b. exec call (call_on c w y b) (after_peek t)) (sym is)
     ∙ ap (exec call (call_on c w y called)) (sym look_on)
 
 pub scoped_refused : (c : Context) (w : Live) (x : Node) (e : Refusal) (s s1 t : Progress) → is_variable x ≡ true
-    → qualifies (asked s).lexeme ≡ true → s1 ≡ looking s → result_of (Path w x) s1 ≡ R.Refused e t
+    → qualifies (next_item s).lexeme ≡ true → s1 ≡ after_peek s → result_of (Path w x) s1 ≡ R.Refused e t
     → result_of (Postfix c w x) s ≡ R.Refused e t
 scoped_refused c w x e s s1 t named colons look path =
     let call = guarded (Postfix c w x) s in

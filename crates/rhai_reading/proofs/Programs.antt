@@ -10,7 +10,7 @@ use Rattle.rhai_reading.specs.Reading.{CallLiteral, CallApart, body}
 use Rattle.rhai_reading.specs.Moves as moves
 use Rattle.rhai_reading.specs.Moves.{Moves, Outcome, Done, Refused, Unfinished, and_then, recast, text_from}
 use Rattle.rhai_reading.specs.Histories as H
-use Rattle.rhai_reading.specs.Histories.{State, asked, looking, taking, after_brace, adding, with_captured, calls}
+use Rattle.rhai_reading.specs.Histories.{State, next_item, after_peek, after_take, after_brace, adding, with_captured, calls}
 use Rattle.rhai_reading.proofs.Streams.{Kept, Run, ended, join, kept_by, look, take, turn}
 
 -- What is told of a run f from s, beside another one. Where that one ends, f ends with the same, at a related state. It
@@ -27,15 +27,15 @@ pub data Told {T : Type 0} (R : State → T → Type 0) (E : Refusal → State �
 pub record Alike {T : Type 0} (n : Moves T) (R : (brace : Bool) → State → T → Type 0)
     (E : Refusal → State → T → Type 0) : Type 0 where
   -- they ask for the same token, and know the same
-  pub asked : (b : Bool) (s : State) (t : T) → R b s t → H.asked s ≡ n.asked t
+  pub next_item : (b : Bool) (s : State) (t : T) → R b s t → H.next_item s ≡ n.next_item t
   pub known : (s : State) (t : T) → R false s t
       → (s.point.library ≡ n.library t) × (s.point.captured ≡ n.captured t)
-  pub looking : (s : State) (t : T) → R false s t → is_memory (n.asked t).lexeme ≡ false
-      → R false (H.looking s) (n.looking t)
-  pub taking : (b : Bool) (s : State) (t : T) → R b s t → is_memory (n.asked t).lexeme ≡ false
-      → R false (H.taking s) (n.taking t)
-  pub after_brace : (s : State) (t : T) → R false s t → is_memory (n.asked t).lexeme ≡ false
-      → is_due RightBrace (n.asked t).lexeme ≡ true → R true (H.after_brace s) (n.after_brace t)
+  pub after_peek : (s : State) (t : T) → R false s t → is_memory (n.next_item t).lexeme ≡ false
+      → R false (H.after_peek s) (n.after_peek t)
+  pub after_take : (b : Bool) (s : State) (t : T) → R b s t → is_memory (n.next_item t).lexeme ≡ false
+      → R false (H.after_take s) (n.after_take t)
+  pub after_brace : (s : State) (t : T) → R false s t → is_memory (n.next_item t).lexeme ≡ false
+      → is_due RightBrace (n.next_item t).lexeme ≡ true → R true (H.after_brace s) (n.after_brace t)
   pub adding : (ended : Ended) (s : State) (t : T) → R false s t → R false (H.adding ended s) (n.adding ended t)
   pub with_captured : (us : List Use) (s : State) (t : T) → R false s t
       → R false (H.with_captured us s) (n.with_captured us t)
@@ -44,7 +44,7 @@ pub record Alike {T : Type 0} (n : Moves T) (R : (brace : Bool) → State → T 
       → (s : State) (t : T) → R false s t → Told (R false) E run s (n.called g other t)
   pub refused : (e : Refusal) (s : State) (t : T) → R false s t → E e s t
   pub stopped : (b : Bool) (e : Refusal) (s : State) (t : T) → R b s t
-      → (is_memory_cause e.cause ≡ false → is_memory (n.asked t).lexeme ≡ false) → E e (H.looking s) (n.looking t)
+      → (is_memory_cause e.cause ≡ false → is_memory (n.next_item t).lexeme ≡ false) → E e (H.after_peek s) (n.after_peek t)
   pub renamed : (e : Refusal) (s : State) (t : T) → E e s t → E (as_literal e) s t
 
 module _ {T : Type 0} {R : State → T → Type 0} {E : Refusal → State → T → Type 0} where
@@ -83,14 +83,14 @@ module _ {T : Type 0} (n : Moves T) {R : Bool → State → T → Type 0} {E : R
 
   -- a token that can be read, or not
   ahead : {A : Type 0} (b : Bool) (f : Item → Run A) (o : Item → Outcome T A) {s : State} {t : T} → R b s t
-      → (is_memory (n.asked t).lexeme ≡ false → Tells (f (n.asked t)) (looking s) (o (n.asked t)))
-      → Tells (λ w. if is_memory (asked w).lexeme then Refused out_of_memory (looking w) else f (asked w) (looking w)) s
-      (if is_memory (n.asked t).lexeme then Refused out_of_memory (n.looking t) else o (n.asked t))
+      → (is_memory (n.next_item t).lexeme ≡ false → Tells (f (n.next_item t)) (after_peek s) (o (n.next_item t)))
+      → Tells (λ w. if is_memory (next_item w).lexeme then Refused out_of_memory (after_peek w) else f (next_item w) (after_peek w)) s
+      (if is_memory (n.next_item t).lexeme then Refused out_of_memory (n.after_peek t) else o (n.next_item t))
   ahead b f o {s} {t} r on =
-      let i = n.asked t in
+      let i = n.next_item t in
       let g : Item → Run _ = λ j w. if is_memory j.lexeme then Refused out_of_memory w else f j w in
-      goes_on (look g s) (subst (λ j. Tells (g j) (looking s)
-      (if is_memory i.lexeme then Refused out_of_memory (n.looking t) else o i)) (sym (alike.asked b s t r))
+      goes_on (look g s) (subst (λ j. Tells (g j) (after_peek s)
+      (if is_memory i.lexeme then Refused out_of_memory (n.after_peek t) else o i)) (sym (alike.next_item b s t r))
       (either (is_memory i.lexeme) (λ none. refuse out_of_memory (alike.stopped b _ s t r (λ other. absurd cc))) on))
 
   -- the functions that have ended, and the names that were used
@@ -111,31 +111,31 @@ module _ {T : Type 0} (n : Moves T) {R : Bool → State → T → Type 0} {E : R
   holds Q P all (Ret x) s t r = both_done (ended (λ w. Done x w) s) r
   holds Q P all (Fail e) s t r = refuse e (alike.refused e s t r)
   holds Q P all (Peek k) s t r =
-      ahead false (λ i. H.exec Q (k i.lexeme i.at)) (λ i. moves.exec n P (k i.lexeme i.at) (n.looking t)) r
-      (λ m. holds Q P all (k (n.asked t).lexeme (n.asked t).at) (looking s) (n.looking t) (alike.looking s t r m))
+      ahead false (λ i. H.exec Q (k i.lexeme i.at)) (λ i. moves.exec n P (k i.lexeme i.at) (n.after_peek t)) r
+      (λ m. holds Q P all (k (n.next_item t).lexeme (n.next_item t).at) (after_peek s) (n.after_peek t) (alike.after_peek s t r m))
   holds Q P all (Take p) s t r =
-      ahead false (λ i w. H.exec Q p (taking w)) (λ i. moves.exec n P p (n.taking t)) r (λ m.
-      goes_on (take code (H.exec Q p) (looking s))
-      (holds Q P all p (taking s) (n.taking t) (alike.taking false s t r m)))
+      ahead false (λ i w. H.exec Q p (after_take w)) (λ i. moves.exec n P p (n.after_take t)) r (λ m.
+      goes_on (take code (H.exec Q p) (after_peek s))
+      (holds Q P all p (after_take s) (n.after_take t) (alike.after_take false s t r m)))
   holds Q P all (TakeText k) s t r =
-      let at = (n.asked t).at in
+      let at = (n.next_item t).at in
       let w = after_brace s in
       let u = n.after_brace t in
       ahead false (λ i w. if is_due RightBrace i.lexeme
       then H.text_from (λ l p v. H.exec Q (k i.at l p) v) (after_brace w)
       else Refused (refusal (not_due RightBrace i.lexeme) i.at) w)
       (λ i. if is_due RightBrace i.lexeme then text_from n (λ l p v. moves.exec n P (k i.at l p) v) u
-      else Refused (refusal (not_due RightBrace i.lexeme) i.at) (n.looking t)) r (λ m.
-      either (is_due RightBrace (n.asked t).lexeme) (λ due.
+      else Refused (refusal (not_due RightBrace i.lexeme) i.at) (n.after_peek t)) r (λ m.
+      either (is_due RightBrace (n.next_item t).lexeme) (λ due.
       let q = alike.after_brace s t r m due in
-      let i = n.asked u in
-      goes_on (take text (H.text_from (λ l p v. H.exec Q (k at l p) v)) (looking s))
-      (ahead true (λ i w. if is_text i.lexeme then H.exec Q (k at i.lexeme i.at) (taking w)
+      let i = n.next_item u in
+      goes_on (take text (H.text_from (λ l p v. H.exec Q (k at l p) v)) (after_peek s))
+      (ahead true (λ i w. if is_text i.lexeme then H.exec Q (k at i.lexeme i.at) (after_take w)
       else Refused (refusal (unexpected i.lexeme) i.at) w)
-      (λ i. if is_text i.lexeme then moves.exec n P (k at i.lexeme i.at) (n.taking u)
-      else Refused (refusal (unexpected i.lexeme) i.at) (n.looking u)) q (λ m.
-      either (is_text i.lexeme) (λ is. goes_on (take code (H.exec Q (k at i.lexeme i.at)) (looking w))
-      (holds Q P all (k at i.lexeme i.at) (taking w) (n.taking u) (alike.taking true w u q m)))
+      (λ i. if is_text i.lexeme then moves.exec n P (k at i.lexeme i.at) (n.after_take u)
+      else Refused (refusal (unexpected i.lexeme) i.at) (n.after_peek u)) q (λ m.
+      either (is_text i.lexeme) (λ is. goes_on (take code (H.exec Q (k at i.lexeme i.at)) (after_peek w))
+      (holds Q P all (k at i.lexeme i.at) (after_take w) (n.after_take u) (alike.after_take true w u q m)))
       (λ none. refuse _ (alike.stopped true _ w u q (λ other. m))))))
       (λ none. refuse _ (alike.stopped false _ s t r (λ other. m))))
   holds Q P all (Know k) s t r =
@@ -173,15 +173,15 @@ calls_hold alike (suc n) g s t r = holds H.steps alike (calls n) (calls n) (call
 -- a run beside itself
 pub itself : Alike H.steps (λ b s t. s ≡ t) (λ e s t. s ≡ t)
 itself = record {
-  asked = λ b s t e. ap asked e;
+  next_item = λ b s t e. ap next_item e;
   known = λ s t e. (ap (λ (u : State). u.point.library) e, ap (λ (u : State). u.point.captured) e);
-  looking = λ s t e m. ap looking e;
-  taking = λ b s t e m. ap taking e;
+  after_peek = λ s t e m. ap after_peek e;
+  after_take = λ b s t e m. ap after_take e;
   after_brace = λ s t e m due. ap after_brace e;
   adding = λ ended s t e. ap (adding ended) e;
   with_captured = λ us s t e. ap (with_captured us) e;
   called = λ g run other h. h;
   refused = λ d s t e. e;
-  stopped = λ b d s t e m. ap looking e;
+  stopped = λ b d s t e m. ap after_peek e;
   renamed = λ d s t e. e;
 }

@@ -4,7 +4,7 @@ use Rattle.std.proofs.Common.{◌≡◌, Bool, true, List, [], ◌∷◌, ◌++�
 use Rattle.rhai_grammar.specs.Prelude.{Cursor, Item, Mode, Tokens, Taken, ask, later, Library, Gives, leads, BeginsWith}
 use Rattle.rhai_grammar.specs.Prelude.{latest_first, Use}
 use Rattle.rhai_grammar.proofs.SeenLemmas.{leads_on, latest_on, both, first_part, last_part}
-use Rattle.rhai_reading.specs.Histories.{State, Outcome, asked, looking, taking}
+use Rattle.rhai_reading.specs.Histories.{State, Outcome, next_item, after_peek, after_take}
 
 abbrev pub cursor : State → Cursor
 cursor s = record { tokens = s.point.tokens; mode = s.mode; peeked = s.peeked }
@@ -28,7 +28,7 @@ stood s library captured peeked =
 
 -- the state after a token was taken, where the next one is requested in this mode
 abbrev pub taking_to : Mode → State → State
-taking_to mode s = record (taking s) { mode = mode }
+taking_to mode s = record (after_take s) { mode = mode }
 
 -- the same functions have ended, and the same names were used
 abbrev pub Agree : State → State → Type 0
@@ -41,7 +41,7 @@ pub record Kept {A : Type 0} (run : Run A) (s t : State) (make : Run A) : Type 0
   pub gives : Gives took s.point.tokens
   pub left : t.point.tokens ≡ leads took s.point.tokens
   pub history : t.point.taken ≡ latest_first took s.point.taken
-  pub front : s.peeked ≡ true → (r : Tokens) → BeginsWith took (cursor t) r → ask s.mode r ≡ asked s
+  pub front : s.peeked ≡ true → (r : Tokens) → BeginsWith took (cursor t) r → ask s.mode r ≡ next_item s
   pub now : run s ≡ make t
   pub again : (r : State) → r.mode ≡ s.mode → r.peeked ≡ s.peeked → Agree r s
       → BeginsWith took (cursor t) r.point.tokens → run r ≡ make (reach took t r)
@@ -101,7 +101,7 @@ same r s mode peeked agree =
 -- where no token is taken
 still : {A : Type 0} (f g : Run A) (s : State) (library : Library) (captured : List Use) (peeked : Bool)
     → (s.peeked ≡ true → peeked ≡ true)
-    → ((w : Tokens) (taken : List Taken) → (peeked ≡ true → ask s.mode w ≡ asked s)
+    → ((w : Tokens) (taken : List Taken) → (peeked ≡ true → ask s.mode w ≡ next_item s)
     → f (placed s w taken) ≡ g (placed (stood s library captured peeked) w taken))
     → Kept f s (stood s library captured peeked) g
 still f g s library captured peeked stays as_ = record {
@@ -119,9 +119,9 @@ ended make s =
     still make make s s.point.library s.point.captured s.peeked (λ p. p) (λ w taken begins. refl)
 
 pub look : {A : Type 0} (f : Item → Run A) (s : State)
-    → Kept (λ w. f (asked w) (looking w)) s (looking s) (f (asked s))
-look f s = still _ (f (asked s)) s s.point.library s.point.captured true (λ p. refl)
-    (λ w taken begins. ap (λ i. f i (placed (looking s) w taken)) (begins refl))
+    → Kept (λ w. f (next_item w) (after_peek w)) s (after_peek s) (f (next_item s))
+look f s = still _ (f (next_item s)) s s.point.library s.point.captured true (λ p. refl)
+    (λ w taken begins. ap (λ i. f i (placed (after_peek s) w taken)) (begins refl))
 
 -- where others have ended, and others were used
 pub turn : {A : Type 0} (f : Library → List Use → Run A) (l : Library → Library) (us : List Use → List Use) (s : State)
@@ -132,7 +132,7 @@ turn f l us s =
 
 pub take : {A : Type 0} (mode : Mode) (f : Run A) (s : State) → Kept (λ w. f (taking_to mode w)) s (taking_to mode s) f
 take mode f s = record {
-  took = record { mode = s.mode; item = asked s } ∷ [];
+  took = record { mode = s.mode; item = next_item s } ∷ [];
   gives = (refl, tt);
   left = refl;
   history = refl;

@@ -13,18 +13,18 @@ pub record State : Type 0 where
   pub mode : Mode
   pub peeked : Bool
 
-abbrev pub asked : State → Item
-asked s = next_at s.mode s.point
+abbrev pub next_item : State → Item
+next_item s = next_at s.mode s.point
 
-abbrev pub looking : State → State
-looking s = record s { peeked = true }
+abbrev pub after_peek : State → State
+after_peek s = record s { peeked = true }
 
-abbrev pub taking : State → State
-taking s = record { point = past s.mode s.point; mode = code; peeked = false }
+abbrev pub after_take : State → State
+after_take s = record { point = past s.mode s.point; mode = code; peeked = false }
 
 -- the next request is one in text mode, directly after a `}` was taken
 abbrev pub after_brace : State → State
-after_brace s = record (taking s) { mode = text }
+after_brace s = record (after_take s) { mode = text }
 
 abbrev pub adding : Ended → State → State
 adding ended s = record s { point = point.adding ended s.point }
@@ -34,9 +34,9 @@ with_captured uses s = record s { point = point.with_captured uses s.point }
 
 abbrev pub steps : Moves State
 steps = record {
-  asked = asked;
-  looking = looking;
-  taking = taking;
+  next_item = next_item;
+  after_peek = after_peek;
+  after_take = after_take;
   after_brace = after_brace;
   library = λ s. s.point.library;
   adding = adding;

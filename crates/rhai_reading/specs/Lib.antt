@@ -1,4 +1,4 @@
-pub mod Goals
+pub mod Terms
 pub mod ReadingStatements
 pub mod ReadingSwitches
 pub mod ReadingFunctions

@@ -3,8 +3,9 @@ use Rattle.std.specs.Prelude.{if◌then◌else◌, List, []}
 use Rattle.rhai_grammar.specs.Prelude.{Lexeme, Position, unexpected, Refusal, as_literal, refusal, out_of_memory, Item}
 use Rattle.rhai_grammar.specs.Prelude.{is_memory, is_due, not_due, is_text, Ended, Library, Use, noted}
 use Rattle.rhai_grammar.specs.declared.due.DueToken.TheVariants.{RightBrace}
-use Rattle.rhai_reading.specs.Goals.{Goal, Val, Prog, Ret, Fail, Peek, Take, TakeText, Know, Add, Note, Call}
-use Rattle.rhai_reading.specs.Goals.{CallLiteral, CallApart}
+use Rattle.rhai_grammar.specs.Goals.{Goal, Val}
+use Rattle.rhai_reading.specs.Terms.{Prog, Ret, Fail, Peek, Take, TakeText, Know, Add, Note, Call}
+use Rattle.rhai_reading.specs.Terms.{CallLiteral, CallApart}
 
 -- what came of a reader, with the state that it left
 pub data Outcome (S A : Type 0) : Type 0 where
@@ -17,9 +18,9 @@ pub data Outcome (S A : Type 0) : Type 0 where
 -- ended; the state after one more has; the names that were used in the closure around it, and the state with others;
 -- and what comes of a reader that another one calls.
 pub record Moves (S : Type 0) : Type 0 where
-  pub asked : S → Item
-  pub looking : S → S
-  pub taking : S → S
+  pub next_item : S → Item
+  pub after_peek : S → S
+  pub after_take : S → S
   pub after_brace : S → S
   pub library : S → Library
   pub adding : Ended → S → S
@@ -40,24 +41,24 @@ recast Unfinished = Unfinished
 
 -- what a text that is taken goes on with, where the next request is in text mode
 abbrev pub text_from : {S A : Type 0} → Moves S → (Lexeme → Position → S → Outcome S A) → S → Outcome S A
-text_from moves go s = if is_memory (moves.asked s).lexeme then Refused out_of_memory (moves.looking s)
-    else if is_text (moves.asked s).lexeme
-    then go (moves.asked s).lexeme (moves.asked s).at (moves.taking s)
-    else Refused (refusal (unexpected (moves.asked s).lexeme) (moves.asked s).at) (moves.looking s)
+text_from moves go s = if is_memory (moves.next_item s).lexeme then Refused out_of_memory (moves.after_peek s)
+    else if is_text (moves.next_item s).lexeme
+    then go (moves.next_item s).lexeme (moves.next_item s).at (moves.after_take s)
+    else Refused (refusal (unexpected (moves.next_item s).lexeme) (moves.next_item s).at) (moves.after_peek s)
 
 -- What a reader does, where call says what each call does. Where the tokenizer found no memory for a token, it is
 -- refused so when it is looked at or taken.
 abbrev pub exec : {S A : Type 0} → Moves S → ((g : Goal) → S → Outcome S (Val g)) → Prog A → S → Outcome S A
 exec moves call (Ret x) s = Done x s
 exec moves call (Fail e) s = Refused e s
-exec moves call (Peek k) s = if is_memory (moves.asked s).lexeme then Refused out_of_memory (moves.looking s)
-    else exec moves call (k (moves.asked s).lexeme (moves.asked s).at) (moves.looking s)
-exec moves call (Take p) s = if is_memory (moves.asked s).lexeme then Refused out_of_memory (moves.looking s)
-    else exec moves call p (moves.taking s)
-exec moves call (TakeText k) s = if is_memory (moves.asked s).lexeme then Refused out_of_memory (moves.looking s)
-    else if is_due RightBrace (moves.asked s).lexeme
-    then text_from moves (λ lexeme at t. exec moves call (k (moves.asked s).at lexeme at) t) (moves.after_brace s)
-    else Refused (refusal (not_due RightBrace (moves.asked s).lexeme) (moves.asked s).at) (moves.looking s)
+exec moves call (Peek k) s = if is_memory (moves.next_item s).lexeme then Refused out_of_memory (moves.after_peek s)
+    else exec moves call (k (moves.next_item s).lexeme (moves.next_item s).at) (moves.after_peek s)
+exec moves call (Take p) s = if is_memory (moves.next_item s).lexeme then Refused out_of_memory (moves.after_peek s)
+    else exec moves call p (moves.after_take s)
+exec moves call (TakeText k) s = if is_memory (moves.next_item s).lexeme then Refused out_of_memory (moves.after_peek s)
+    else if is_due RightBrace (moves.next_item s).lexeme
+    then text_from moves (λ lexeme at t. exec moves call (k (moves.next_item s).at lexeme at) t) (moves.after_brace s)
+    else Refused (refusal (not_due RightBrace (moves.next_item s).lexeme) (moves.next_item s).at) (moves.after_peek s)
 exec moves call (Know k) s = exec moves call (k (moves.library s)) s
 exec moves call (Add ended p) s = exec moves call p (moves.adding ended s)
 exec moves call (Note captures u p) s = exec moves call p (moves.with_captured (noted captures u (moves.captured s)) s)

@@ -1,21 +1,22 @@
 -- The reading program: the readers as terms that request tokens. It stands between the code and the definitions: no
 -- public promise speaks of it.
-use Rattle.std.specs.Prelude.{ℕ, Bool, true, false, Option, Some, None, List, ◌==◌, ◌||◌, ◌&&◌, nat_lt, codes}
+use Rattle.std.specs.Prelude.{ℕ, Bool, true, false, Option, Some, None, List, ◌||◌, ◌&&◌, codes}
 use Rattle.std.specs.Prelude.{if◌then◌else◌}
+use Rattle.rhai_grammar.specs.Strengths.{continues}
 use Rattle.rhai_grammar.specs.Prelude.{Text, Lexeme, text_of, Node, Nodes, Properties, unit, integer, array, object_map}
 use Rattle.rhai_grammar.specs.Prelude.{property, this, no_nodes, with_node, no_properties, with_property, position_of}
 use Rattle.rhai_grammar.specs.Prelude.{block_value, braces, Optional, absent, interpolated, made_block, present}
 use Rattle.rhai_grammar.specs.Prelude.{Position, Refusal, refusal, is_end, is_in_function, Context, Live, below_global}
 use Rattle.rhai_grammar.specs.Prelude.{full, has_single_blocks, in_block, in_case, do_end, guard_fault, iterated_fault}
 use Rattle.rhai_grammar.specs.Prelude.{may_be_value, defined_as, is_qualified, may_use, module_fault, qualified}
-use Rattle.rhai_grammar.specs.Prelude.{defines, statement_start, after_part, is_close, no_argument, item_place}
-use Rattle.rhai_grammar.specs.Prelude.{KeyPlace, FieldsEnd, AKey, NoKey, has_key, property_count, LinkSpot}
+use Rattle.rhai_grammar.specs.Prelude.{defines, statement_start, after_part, is_close, no_argument, item_role}
+use Rattle.rhai_grammar.specs.Prelude.{KeyRole, FieldsEnd, AKey, NoKey, has_key, property_count, LinkSpot}
 use Rattle.rhai_grammar.specs.Prelude.{spot_after_operand, spot_after_bracket, spot_after_dot, Link, chained}
 use Rattle.rhai_grammar.specs.Prelude.{index_refusal, last_fault, beginning, value_of, no_operand, unexpected, missing}
-use Rattle.rhai_grammar.specs.Prelude.{calling, calls, may_be_called, is_this, linking, is_name, MemberPlace, AMember}
-use Rattle.rhai_grammar.specs.Prelude.{NoMember, excludes_use, member_place, qualifies, added_text, is_last_text}
-use Rattle.rhai_grammar.specs.Prelude.{Library, operand_start, place_after, starts, parameter_place, arm_fault}
-use Rattle.rhai_grammar.specs.Prelude.{arm_place, signed, sign_holds, malformed, operator_tree, boolean_holds}
+use Rattle.rhai_grammar.specs.Prelude.{calling, calls, may_be_called, is_this, linking, is_name, MemberRole, AMember}
+use Rattle.rhai_grammar.specs.Prelude.{NoMember, excludes_use, member_role, qualifies, added_text, is_last_text}
+use Rattle.rhai_grammar.specs.Prelude.{Library, operand_start, role_after, starts, parameter_role, arm_fault}
+use Rattle.rhai_grammar.specs.Prelude.{arm_role, signed, sign_holds, malformed, operator_tree, boolean_holds}
 use Rattle.rhai_grammar.specs.Prelude.{mismatched, Follower, Operator, Unknown, Other, follower_of, name_tree}
 use Rattle.rhai_grammar.specs.Prelude.{variable_of, is_variable, node_count, call_tree, bracket_link, definition_tree}
 use Rattle.rhai_grammar.specs.Prelude.{member_link, method_tree, captures_use, may_be_closure}
@@ -23,10 +24,10 @@ use Rattle.rhai_lower.specs.Nodes.{if_statement}
 use Rattle.rhai_lower.specs.Nodes as node
 use Rattle.rhai_grammar.specs.Causes as cause
 use Rattle.rhai_grammar.specs.declared.due.DueToken.TheVariants as due
-use Rattle.rhai_grammar.specs.Statements.{statement_place}
+use Rattle.rhai_grammar.specs.Statements.{statement_role}
 use Rattle.rhai_grammar.specs.declared.list.CommaList.TheVariants as lists
-use Rattle.rhai_grammar.specs.declared.role.ItemPlace.{ItemPlace}
-use Rattle.rhai_grammar.specs.declared.role.ItemPlace.TheVariants as place
+use Rattle.rhai_grammar.specs.declared.role.ItemRole.{ItemRole}
+use Rattle.rhai_grammar.specs.declared.role.ItemRole.TheVariants as place
 use Rattle.rhai_grammar.specs.Literals.{no_item, too_many_fields}
 use Rattle.rhai_grammar.specs.Verdicts.{bang_refusal, next_key, no_path}
 use Rattle.rhai_grammar.specs.declared.role.Beginning.{Beginning}
@@ -37,18 +38,18 @@ use Rattle.rhai_grammar.specs.declared.role.Linking.{Linking}
 use Rattle.rhai_grammar.specs.declared.role.Linking.TheVariants as link
 use Rattle.rhai_grammar.specs.declared.role.OperandStart.{OperandStart}
 use Rattle.rhai_grammar.specs.declared.role.OperandStart.TheVariants as first
-pub use Rattle.rhai_reading.specs.Goals.{Goal, Whole, Expression, Operand, Primary, Called, Links, Index, Member}
-pub use Rattle.rhai_reading.specs.Goals.{Postfix, Arguments, Items, Elements, Fields, Segments, TextAfter, Jump}
-pub use Rattle.rhai_reading.specs.Goals.{NextKey, NextOperator, BinaryOp, ExprStatement, VarName, Initializer}
-pub use Rattle.rhai_reading.specs.Goals.{Definition, Statement, Statements, BlockStart, Inside, Block, BlockEnd}
-pub use Rattle.rhai_reading.specs.Goals.{Branch, Braced, Catch, Conditional, Construct, DoEnd, Guard, Iterated}
-pub use Rattle.rhai_reading.specs.Goals.{Alias, Export, Import, LoopNames, Path, RightOperand}
-pub use Rattle.rhai_reading.specs.Goals.{Action, Arm, ArmEnd, Arms, Case, CaseGuard, Cases, DefaultArm}
-pub use Rattle.rhai_reading.specs.Goals.{Comments, DefaultEnd, Function, FunctionHead, FunctionStatement, ParameterList}
-pub use Rattle.rhai_reading.specs.Goals.{Closure, ClosureBody, Parameters, Script, Val}
-pub use Rattle.rhai_reading.specs.Goals.{Ret, Fail, Peek, Take, TakeText, Know, Add, Note, Call, CallLiteral, CallApart}
-pub use Rattle.rhai_reading.specs.Goals.{Prog}
-pub use Rattle.rhai_reading.specs.Goals.{after_a_part, construct_on, match_name, match_token, part_next, raised, tested}
+pub use Rattle.rhai_grammar.specs.Goals.{Goal, Whole, Expression, Operand, Primary, Called, Links, Index, Member}
+pub use Rattle.rhai_grammar.specs.Goals.{Postfix, Arguments, Items, Elements, Fields, Segments, TextAfter, Jump}
+pub use Rattle.rhai_grammar.specs.Goals.{NextKey, NextOperator, BinaryOp, ExprStatement, VarName, Initializer}
+pub use Rattle.rhai_grammar.specs.Goals.{Definition, Statement, Statements, BlockStart, Inside, Block, BlockEnd}
+pub use Rattle.rhai_grammar.specs.Goals.{Branch, Braced, Catch, Conditional, Construct, DoEnd, Guard, Iterated}
+pub use Rattle.rhai_grammar.specs.Goals.{Alias, Export, Import, LoopNames, Path, RightOperand}
+pub use Rattle.rhai_grammar.specs.Goals.{Action, Arm, ArmEnd, Arms, Case, CaseGuard, Cases, DefaultArm}
+pub use Rattle.rhai_grammar.specs.Goals.{Comments, DefaultEnd, Function, FunctionHead, FunctionStatement, ParameterList}
+pub use Rattle.rhai_grammar.specs.Goals.{Closure, ClosureBody, Parameters, Script, Val}
+pub use Rattle.rhai_reading.specs.Terms.{Ret, Fail, Peek, Take, TakeText, Know, Add, Note, Call, CallLiteral, CallApart}
+pub use Rattle.rhai_reading.specs.Terms.{Prog}
+pub use Rattle.rhai_reading.specs.Terms.{after_a_part, construct_on, match_name, match_token, part_next, raised, tested}
 pub use Rattle.rhai_reading.specs.ReadingStatements.{evaluated_at, var_name_at, value_at, definition_on}
 pub use Rattle.rhai_reading.specs.ReadingStatements.{jump_on, loop_at, statement_at, separated_at, statements_on}
 pub use Rattle.rhai_reading.specs.ReadingStatements.{documented, documented_at, fn_on, private_on}
@@ -56,7 +57,7 @@ pub use Rattle.rhai_reading.specs.ReadingStatements.{statements_at, inside_on, i
 pub use Rattle.rhai_reading.specs.ReadingStatements.{no_brace, else_at, branch_at, counted_on}
 pub use Rattle.rhai_reading.specs.ReadingStatements.{first_of_two, loop_names_at, catch_at, do_end_at}
 pub use Rattle.rhai_reading.specs.ReadingStatements.{alias_at, export_at, export_on, global_at, import_on}
-pub use Rattle.rhai_reading.specs.ReadingFunctions.{comment_of, comments_at}
+pub use Rattle.rhai_reading.specs.ReadingFunctions.{comments_at}
 pub use Rattle.rhai_reading.specs.ReadingFunctions.{function_at, function_body_at, function_end, function_on, head_at}
 pub use Rattle.rhai_reading.specs.ReadingClosures.{captured_on, closure_added, closure_at, closure_body_at, closure_by}
 pub use Rattle.rhai_reading.specs.ReadingClosures.{closure_end, closure_on}
@@ -214,7 +215,7 @@ abbrev pub element_next : Context → Live → (opening : Position) → Nodes �
 element_next context live opening ns = after_a_part lists.Array (Call (Elements context live opening ns) Ret) (Ret ns)
 
 -- where an item may begin
-abbrev pub element_at : Context → Live → (opening : Position) → Nodes → Lexeme → Position → ItemPlace
+abbrev pub element_at : Context → Live → (opening : Position) → Nodes → Lexeme → Position → ItemRole
     → Prog Nodes
 element_at context live opening before lexeme at place.End = Take (Ret before)
 element_at context live opening before lexeme at place.Item =
@@ -228,7 +229,7 @@ room_at context before key at lexeme pos =
     if full context.sizes.map (property_count before) then Fail (refusal (too_many_fields context.sizes.map) pos)
     else Ret (Some (key, at))
 
-abbrev pub key_on : Context → Properties → Position → KeyPlace → Prog (Option (Text × Position))
+abbrev pub key_on : Context → Properties → Position → KeyRole → Prog (Option (Text × Position))
 key_on context before at FieldsEnd = Take (Ret None)
 key_on context before at (AKey key) =
     Take (if has_key key before then Fail (refusal (cause.DuplicatedProperty key) at)
@@ -263,7 +264,7 @@ member_on context live name name_at lexeme at =
     Fail (refusal (cause.Reserved (text_of name)) name_at)
 
 -- after a dot
-abbrev pub dot_at : Live → LinkSpot → (dot : Lexeme) → Position → Position → MemberPlace → Prog (List Link)
+abbrev pub dot_at : Live → LinkSpot → (dot : Lexeme) → Position → Position → MemberRole → Prog (List Link)
 dot_at live spot dot at pos AMember =
     raised spot.settings at (λ deeper. Call (Member deeper live) (λ x.
     Call (Links live (spot_after_dot spot (member_link dot at x))) Ret))
@@ -275,14 +276,10 @@ links_at live spot lexeme at link.Bracket =
     Call (Index inside live spot.indexed) (λ x.
     Call (Links live (spot_after_bracket spot (bracket_link lexeme at x))) Ret))))
 links_at live spot lexeme at link.Dot =
-    Take (Peek (λ member pos. dot_at live spot lexeme at pos (member_place member)))
+    Take (Peek (λ member pos. dot_at live spot lexeme at pos (member_role member)))
 links_at live spot lexeme at link.Nothing = tested spot.before (last_fault spot.before)
 
 -- ---- operators
-
--- an operator of this strength goes on with a run of that one
-abbrev pub continues : (parent strength : ℕ) → (right : Bool) → Bool
-continues parent strength right = nat_lt parent strength || (parent == strength && right)
 
 -- a reserved symbol after an operand is refused
 abbrev pub next_operator_at : Position → Follower → Prog (Option (ℕ × Bool))
@@ -307,7 +304,7 @@ binary_right context live at parent lhs strength op pos rhs =
 -- after an operator
 abbrev pub binary_on : Context → Live → Position → ℕ → Node → ℕ → Lexeme → Position → Prog Node
 binary_on context live at parent lhs strength op pos =
-    Take (Call (RightOperand context live (place_after op)) (binary_right context live at parent lhs strength op pos))
+    Take (Call (RightOperand context live (role_after op)) (binary_right context live at parent lhs strength op pos))
 
 abbrev pub binary_at : Context → Live → Position → ℕ → Node → Option (ℕ × Bool) → Prog Node
 binary_at context live at parent lhs None = Ret lhs
@@ -334,7 +331,7 @@ body (Arguments context live at) = Peek (arguments_at context live at)
 body (Items context live before) = Call (Expression context live) (λ x. items_at context live (with_node before x))
 body (Elements context live opening before) =
     Peek (λ lexeme at.
-    element_at context live opening before lexeme at (item_place context.sizes.array (node_count before) lexeme))
+    element_at context live opening before lexeme at (item_role context.sizes.array (node_count before) lexeme))
 body (Fields context live opening before) = Call (NextKey context before) (field_on context live opening before)
 body (Segments context live start before) = Call BlockStart (λ opening. segment_on context live start opening before)
 body TextAfter = TakeText (λ end lexeme at. Ret (end, text_of lexeme, is_last_text lexeme, at))
@@ -353,7 +350,7 @@ body (Export context live at) = Peek (λ lexeme pos. export_at context live at p
 body Alias = Peek (λ lexeme at. alias_at lexeme)
 body (Statement context live) = Peek (λ lexeme at. statement_at context live at (statement_start context lexeme))
 body (Statements closing context live before) =
-    Peek (λ lexeme at. statements_at closing context live before lexeme at (statement_place closing lexeme))
+    Peek (λ lexeme at. statements_at closing context live before lexeme at (statement_role closing lexeme))
 body BlockStart = Peek (λ lexeme at. match_token due.LeftBrace (Ret at))
 body (Inside context live) = inside_on context live (has_single_blocks context)
 body (Block context live at) = Call (Inside context live) (λ fs. Call (BlockEnd at fs) Ret)
@@ -370,7 +367,7 @@ body (Branch context live at) = Peek (λ lexeme pos. branch_at context live at l
 body LoopNames = Peek (λ lexeme at. loop_names_at lexeme)
 body Catch = match_token due.Catch (Peek (λ lexeme at. catch_at lexeme))
 body DoEnd = Peek (λ lexeme at. do_end_at lexeme at (do_end lexeme))
-body (Arms context live before) = Peek (λ lexeme at. arms_at context live before lexeme at (arm_place lexeme))
+body (Arms context live before) = Peek (λ lexeme at. arms_at context live before lexeme at (arm_role lexeme))
 body (Arm context live before) =
     Call (Cases context live no_nodes) (λ xs. Call (CaseGuard context live) (λ guard. match_token due.DoubleArrow (
     Call (Action context live) (λ does. arm_on xs guard does (arm_fault before xs)))))
@@ -381,7 +378,7 @@ body (Case context live) = CallLiteral (Expression (in_case context) (in_block l
 body (CaseGuard context live) = Peek (λ lexeme at. case_guard_at context live lexeme)
 body (Action context live) = action_on context live (has_single_blocks context)
 body (ArmEnd itself) = Peek (λ lexeme at. arm_end_at itself lexeme at (after_part lists.Arms lexeme))
-body (DefaultEnd default) = Peek (λ lexeme at. default_end_at default lexeme at (arm_place lexeme))
+body (DefaultEnd default) = Peek (λ lexeme at. default_end_at default lexeme at (arm_role lexeme))
 body (Comments before) = Peek (comments_at before)
 body (FunctionStatement context live comments first at is_private) =
     function_at context live comments first at is_private
@@ -391,6 +388,6 @@ body (Function context comments at is_private) =
 body FunctionHead = Peek head_at
 body (ParameterList function) = Peek (λ lexeme at. parameters_at function lexeme at (calling lexeme))
 body (Parameters parts function before) =
-    Peek (λ lexeme at. parameter_at parts function before lexeme at (parameter_place parts lexeme))
+    Peek (λ lexeme at. parameter_at parts function before lexeme at (parameter_role parts lexeme))
 body (Closure context live at bars) = Know (closure_at context live at bars)
 body (ClosureBody context live) = Peek (closure_body_at context live)

@@ -9,8 +9,9 @@ use Rattle.rhai_grammar.specs.Causes as cause
 use Rattle.rhai_grammar.specs.declared.list.CommaList.TheVariants as lists
 use Rattle.rhai_grammar.specs.declared.role.Bars.{Bars}
 use Rattle.rhai_grammar.specs.declared.role.Bars.TheVariants as bars
-use Rattle.rhai_reading.specs.Goals.{ClosureBody, Parameters, Statement, Ret, Fail, Know, Add, Note, Call, CallApart}
-use Rattle.rhai_reading.specs.Goals.{Prog, raised}
+use Rattle.rhai_grammar.specs.Goals.{ClosureBody, Parameters, Statement}
+use Rattle.rhai_reading.specs.Terms.{Ret, Fail, Know, Add, Note, Call, CallApart}
+use Rattle.rhai_reading.specs.Terms.{Prog, raised}
 
 -- the names that a closure captures are used where it ends
 abbrev pub captured_on : {A : Type 0} → List Use → Context → Live → Prog A → Prog A

@@ -1,5 +1,6 @@
 -- The terms of the readers of functions.
 use Rattle.std.specs.Prelude.{Bool, ◌++◌, Option, Some, None, List, [], ◌∷◌, if◌then◌else◌}
+use Rattle.rhai_grammar.specs.Comments.{comment_of}
 use Rattle.rhai_grammar.specs.Prelude.{Text, Lexeme, text_of, noop, Position, is_name, refusal, Comment, Context, Live}
 use Rattle.rhai_grammar.specs.Prelude.{is_global, is_due, not_due, duplicate_of, ended_function, in_function, is_new}
 use Rattle.rhai_grammar.specs.Prelude.{is_type, may_begin, names_function, no_function_name, parameters_live, is_among}
@@ -12,16 +13,13 @@ use Rattle.rhai_grammar.specs.declared.list.CommaList.{CommaList}
 use Rattle.rhai_grammar.specs.declared.list.CommaList.TheVariants as lists
 use Rattle.rhai_grammar.specs.declared.role.Calling.{Calling}
 use Rattle.rhai_grammar.specs.declared.role.Calling.TheVariants as calls_by
-use Rattle.rhai_grammar.specs.declared.role.ItemPlace.{ItemPlace}
-use Rattle.rhai_grammar.specs.declared.role.ItemPlace.TheVariants as place
-use Rattle.rhai_reading.specs.Goals.{Block, Comments, Function, Parameters, Ret, Fail, Peek, Take, Know, Add, Call}
-use Rattle.rhai_reading.specs.Goals.{Prog, after_a_part, raised}
+use Rattle.rhai_grammar.specs.declared.role.ItemRole.{ItemRole}
+use Rattle.rhai_grammar.specs.declared.role.ItemRole.TheVariants as place
+use Rattle.rhai_grammar.specs.Goals.{Block, Comments, Function, Parameters}
+use Rattle.rhai_reading.specs.Terms.{Ret, Fail, Peek, Take, Know, Add, Call}
+use Rattle.rhai_reading.specs.Terms.{Prog, after_a_part, raised}
 
 -- ---- its doc comments
-
--- a token as a doc comment
-abbrev pub comment_of : Lexeme → Position → Comment
-comment_of lexeme at = record { text = text_of lexeme; at = at }
 
 -- after these doc comments
 abbrev pub comments_at : (before : List Comment) → Lexeme → Position → Prog (List Comment)
@@ -53,7 +51,7 @@ head_at lexeme at =
 -- ---- the parameters
 
 -- where a parameter may be
-abbrev pub parameter_at : CommaList → (function : Text) → (before : List Text) → Lexeme → Position → ItemPlace
+abbrev pub parameter_at : CommaList → (function : Text) → (before : List Text) → Lexeme → Position → ItemRole
     → Prog (List Text)
 parameter_at parts function before lexeme at place.End = Take (Ret before)
 parameter_at parts function before lexeme at place.Item =

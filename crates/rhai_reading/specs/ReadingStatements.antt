@@ -20,16 +20,18 @@ use Rattle.rhai_grammar.specs.declared.role.AfterStatement.{AfterStatement}
 use Rattle.rhai_grammar.specs.declared.role.AfterStatement.TheVariants as ends
 use Rattle.rhai_grammar.specs.declared.role.Closing.{Closing}
 use Rattle.rhai_grammar.specs.declared.role.Closing.TheVariants.{Brace}
-use Rattle.rhai_grammar.specs.declared.role.StatementPlace.{StatementPlace}
-use Rattle.rhai_grammar.specs.declared.role.StatementPlace.TheVariants as stands
+use Rattle.rhai_grammar.specs.declared.role.StatementRole.{StatementRole}
+use Rattle.rhai_grammar.specs.declared.role.StatementRole.TheVariants as stands
 use Rattle.rhai_grammar.specs.declared.role.StatementStart.{StatementStart}
 use Rattle.rhai_grammar.specs.declared.role.StatementStart.TheVariants as start
 use Rattle.rhai_grammar.specs.Trees.{no_block}
-use Rattle.rhai_reading.specs.Goals.{construct_on, Expression, Jump, ExprStatement, Definition, Statement, Statements}
-use Rattle.rhai_reading.specs.Goals.{Block, Arms, Braced, Catch, Conditional, DoEnd, Guard, Iterated, Alias, Comments}
-use Rattle.rhai_reading.specs.Goals.{Export, FunctionStatement, Import, LoopNames, Ret, Fail, Peek, Take, Call, Prog}
-use Rattle.rhai_reading.specs.Goals.{match_name, match_token, raised, tested}
-use Rattle.rhai_reading.specs.ReadingFunctions.{comment_of}
+use Rattle.rhai_grammar.specs.Goals.{Expression, Jump, ExprStatement, Definition, Statement, Statements}
+use Rattle.rhai_reading.specs.Terms.{construct_on}
+use Rattle.rhai_grammar.specs.Goals.{Block, Arms, Braced, Catch, Conditional, DoEnd, Guard, Iterated, Alias, Comments}
+use Rattle.rhai_grammar.specs.Goals.{Export, FunctionStatement, Import, LoopNames}
+use Rattle.rhai_reading.specs.Terms.{Ret, Fail, Peek, Take, Call, Prog}
+use Rattle.rhai_reading.specs.Terms.{match_name, match_token, raised, tested}
+use Rattle.rhai_grammar.specs.Comments.{comment_of}
 
 -- after an expression
 abbrev pub evaluated_at : Context → Live → Node → Lexeme → Position → Prog node.Statement
@@ -148,7 +150,7 @@ statements_on closing context live before ends =
     else Peek (λ lexeme at. separated_at closing context live before lexeme at (token_after_statement closing lexeme))
 
 -- where a statement of a list may begin
-abbrev pub statements_at : Closing → Context → Live → node.Statements → Lexeme → Position → StatementPlace
+abbrev pub statements_at : Closing → Context → Live → node.Statements → Lexeme → Position → StatementRole
     → Prog (node.Statements × Live)
 statements_at closing context live before lexeme at stands.Close = Ret (before, live)
 statements_at closing context live before lexeme at stands.Statement =

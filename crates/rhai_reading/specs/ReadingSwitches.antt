@@ -9,10 +9,11 @@ use Rattle.rhai_grammar.specs.declared.due.DueToken.TheVariants as due
 use Rattle.rhai_grammar.specs.declared.list.AfterPart.{AfterPart}
 use Rattle.rhai_grammar.specs.declared.list.AfterPart.TheVariants as after
 use Rattle.rhai_grammar.specs.declared.list.CommaList.TheVariants as lists
-use Rattle.rhai_grammar.specs.declared.role.ArmPlace.{ArmPlace}
-use Rattle.rhai_grammar.specs.declared.role.ArmPlace.TheVariants as arm
-use Rattle.rhai_reading.specs.Goals.{Action, Arm, ArmEnd, Arms, Cases, DefaultArm, DefaultEnd, Expression, Guard}
-use Rattle.rhai_reading.specs.Goals.{Statement, Prog, Ret, Fail, Peek, Take, Call, match_token}
+use Rattle.rhai_grammar.specs.declared.role.ArmRole.{ArmRole}
+use Rattle.rhai_grammar.specs.declared.role.ArmRole.TheVariants as arm
+use Rattle.rhai_grammar.specs.Goals.{Action, Arm, ArmEnd, Arms, Cases, DefaultArm, DefaultEnd, Expression, Guard}
+use Rattle.rhai_grammar.specs.Goals.{Statement}
+use Rattle.rhai_reading.specs.Terms.{Prog, Ret, Fail, Peek, Take, Call, match_token}
 
 -- after the case of an arm, of which it has these so far
 abbrev pub cases_at : Context → Live → Nodes → Lexeme → Prog Nodes
@@ -41,7 +42,7 @@ arm_end_at itself lexeme at after.Close = Ret tt
 arm_end_at itself lexeme at after.Nothing = if itself then Ret tt else Fail (refusal (not_after lists.Arms lexeme) at)
 
 -- after the default arm, whose `_` is at a position
-abbrev pub default_end_at : (default : Position) → Lexeme → Position → ArmPlace → Prog (Unit {0})
+abbrev pub default_end_at : (default : Position) → Lexeme → Position → ArmRole → Prog (Unit {0})
 default_end_at default lexeme at arm.Close = Take (Ret tt)
 default_end_at default lexeme at arm.Nothing = Fail (refusal (missing (codes "}") lexeme) at)
 default_end_at default lexeme at _ = Fail (refusal cause.WrongSwitchDefaultCase default)
@@ -62,7 +63,7 @@ default_at context live default lexeme at =
     else match_token due.DoubleArrow (Call (Action context live) (λ does. default_on does default))
 
 -- where an arm may begin
-abbrev pub arms_at : Context → Live → Collected → Lexeme → Position → ArmPlace → Prog Collected
+abbrev pub arms_at : Context → Live → Collected → Lexeme → Position → ArmRole → Prog Collected
 arms_at context live before lexeme at arm.Case =
     Call (Arm context live before) (λ a. Call (Arms context live (with_arm_collected before a.0 a.1 a.2)) Ret)
 arms_at context live before lexeme at arm.Default =

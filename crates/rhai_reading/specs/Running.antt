@@ -7,7 +7,8 @@ use Rattle.rhai_grammar.specs.Cursors as cursors
 use Rattle.rhai_grammar.specs.declared.error.ParseError.{ParseError}
 use Rattle.rhai_reading.specs.Moves as moves
 use Rattle.rhai_reading.specs.Moves.{Moves, Outcome}
-use Rattle.rhai_reading.specs.Nesting.{Nesting, entered, is_counted, left_one}
+use Rattle.rhai_grammar.specs.Goals.{is_counted}
+use Rattle.rhai_reading.specs.Nesting.{Nesting, entered, left_one}
 pub use Rattle.rhai_reading.specs.Moves.{Done, Refused, Unfinished, and_then, recast}
 use Rattle.rhai_reading.specs.Reading.{Goal, Whole, Expression, Operand, Primary, Postfix, Arguments, Items, Elements}
 use Rattle.rhai_reading.specs.Reading.{Fields, NextKey, Called, Links, Index, Member, NextOperator, BinaryOp, Val}
@@ -26,14 +27,14 @@ pub record Progress : Type 0 where
   pub captured : List Use
   pub nesting : Nesting
 
-abbrev pub asked : Progress → Item
-asked s = cursors.asked s.cursor
+abbrev pub next_item : Progress → Item
+next_item s = cursors.next_item s.cursor
 
-abbrev pub looking : Progress → Progress
-looking s = record s { cursor = cursors.looking s.cursor }
+abbrev pub after_peek : Progress → Progress
+after_peek s = record s { cursor = cursors.after_peek s.cursor }
 
-abbrev pub taking : Progress → Progress
-taking s = record s { cursor = cursors.taking s.cursor }
+abbrev pub after_take : Progress → Progress
+after_take s = record s { cursor = cursors.after_take s.cursor }
 
 abbrev pub after_brace : Progress → Progress
 after_brace s = record s { cursor = cursors.after_brace s.cursor }
@@ -62,9 +63,9 @@ nested run s = left_so (run (entering s))
 
 abbrev pub steps : Moves Progress
 steps = record {
-  asked = asked;
-  looking = looking;
-  taking = taking;
+  next_item = next_item;
+  after_peek = after_peek;
+  after_take = after_take;
   after_brace = after_brace;
   library = λ s. s.library;
   adding = adding;

@@ -77,7 +77,8 @@ fn parse_script(alloc: Global, engine: &Engine, mut input: TokenStream) -> Parse
     })
 }
 
-// The tree of a list of tokens, parsed by this entry. It is not inlined, so that a profile shows what parsing takes.
+// The tree of a list of tokens, parsed by this entry point. It is not inlined, so that a profile shows what parsing
+// takes.
 #[inline(never)]
 fn parse(alloc: Global, entry: Entry, limits: &Limits, list: TokenList) -> ParseResult<AST>
     requires { All (λ e. IsTrue (may_be_delivered e)) list.entries.items }

@@ -1,4 +1,4 @@
-//! The words of the command line: an entry and limits.
+//! The words of the command line: an entry point and limits.
 
 ghost use Rattle.std.specs.Prelude.{◌≡◌, ◌↔◌, IsSome, IsNone};
 
@@ -71,7 +71,7 @@ fn read_word(limits: &mut Limits, word: &str) -> Option<()> {
     }
 }
 
-// The entry that a word names, if it names one.
+// The entry point that a word names, if it names one.
 fn named_entry(word: &str) -> Option<Entry> {
     match word {
         "expr" => Some(Entry::Expr),

@@ -3,12 +3,13 @@ use Rattle.std.proofs.Common.{◌≡◌, ◌∙◌, ℕ, ◌≤◌, zero, suc, B
 use Rattle.std.proofs.Common.{length, refl, subst, sym}
 use Rattle.std.specs.Prelude.{take}
 use Rattle.rhai_lower.specs.declared.position.Position.{Position}
-use Rattle.rhai_grammar.specs.Cursors.{Cursor, asked}
+use Rattle.rhai_grammar.specs.Cursors.{Cursor, next_item}
 use Rattle.rhai_grammar.specs.Delivered.{Mode, Taken, ask, code, is_end, later, text}
-use Rattle.rhai_grammar.specs.Demands.{Demands}
 use Rattle.rhai_grammar.specs.Libraries.{Library}
 use Rattle.rhai_grammar.specs.Promises.{NoneBegins, Saw}
 use Rattle.rhai_grammar.specs.Seen.{Gives, leads}
+use Rattle.rhai_reading.specs.Reading.{Goal}
+use Rattle.rhai_grammar.specs.Promises.{written}
 use Rattle.rhai_tokenizer.specs.Meanings.{at_start}
 use Rattle.rhai_tokenizer.specs.Pieces.{Piece, spelled}
 use Rattle.rhai_tokenizer.specs.Places.{at_place, past, start}
@@ -125,9 +126,9 @@ fewer_same (suc n) (i ∷ is) (j ∷ js) same =
 
 -- ---- final refusals
 
-module _ {F : Type 0} (whole : F → Demands) (before : Library) (limits : Limits) (ps : List Piece) (taken : List Taken)
-    (left : Cursor) (saw : Saw taken (cursor_in limits ps) left) (early : NoneBegins whole before taken left)
-    (no_end : is_end (asked left).lexeme ≡ false) where
+module _ (g : Goal) (before : Library) (limits : Limits) (ps : List Piece) (taken : List Taken)
+    (left : Cursor) (saw : Saw taken (cursor_in limits ps) left) (early : NoneBegins (written g) before taken left)
+    (no_end : is_end (next_item left).lexeme ≡ false) where
   abbrev all : List Item
   all = items limits at_start ps
 
@@ -141,7 +142,7 @@ module _ {F : Type 0} (whole : F → Demands) (before : Library) (limits : Limit
   few : length taken ≤ length all
   few = let e = enough in omega (arith, e)
 
-  by_peek : (p : Bool) → left.peeked ≡ p → IsFinal whole before limits ps
+  by_peek : (p : Bool) → left.peeked ≡ p → IsFinal g before limits ps
   by_peek false unpeeked = record {
     seen = length taken;
     within = few;
@@ -161,5 +162,5 @@ module _ {F : Type 0} (whole : F → Demands) (before : Library) (limits : Limit
     );
   }
 
-  pub is_final : IsFinal whole before limits ps
+  pub is_final : IsFinal g before limits ps
   is_final = by_peek left.peeked refl

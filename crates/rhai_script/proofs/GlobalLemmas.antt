@@ -12,13 +12,14 @@ use Rattle.rhai_lower.specs.declared.ast.ScriptFuncDef.{ScriptFuncDef}
 use Rattle.rhai_lower.specs.declared.ast.Stmt.{Stmt}
 use Rattle.rhai_grammar.specs.Causes.{is_for_memory, no_memory}
 use Rattle.rhai_grammar.specs.Contexts.{Context, nothing_live}
-use Rattle.rhai_grammar.specs.Cursors.{Cursor, asked, cursor_of, taking}
+use Rattle.rhai_grammar.specs.Cursors.{Cursor, next_item, cursor_of, after_take}
 use Rattle.rhai_grammar.specs.Delivered.{is_end}
-use Rattle.rhai_grammar.specs.Demands.{Demands}
 use Rattle.rhai_grammar.specs.Libraries.{Library}
-use Rattle.rhai_grammar.specs.Promises.{HasRead, ReadsWhole, Saw, UnlessMemory, scripts}
+use Rattle.rhai_grammar.specs.Promises.{HasRead, Saw, UnlessMemory}
 use Rattle.rhai_grammar.specs.declared.error.ParseError.{ParseError}
-use Rattle.rhai_grammar.proofs.PlaceLemmas.{refusals_stand_at_tokens}
+use Rattle.rhai_reading.specs.Reading.{Goal, Script}
+use Rattle.rhai_grammar.specs.Promises.{ReadsWhole, Written}
+use Rattle.rhai_productions.proofs.Positions.{refusals_stand_at_tokens}
 use Rattle.rhai_parser.specs.Engines.{EngineValue}
 use Rattle.rhai_parser.specs.Nesting.{NestsAsWritten}
 use Rattle.rhai_parser.specs.Scripts.{Constants, IsScript, ReadsScript}
@@ -36,21 +37,21 @@ use Rattle.rhai_script.proofs.TextLemmas.{nothing_read, text_read}
 
 -- ---- the same answer, told otherwise
 
-pub read_ok : {F X Y : Type 0} (whole : F → Demands) (Is : F → X → Type 0) (Told : F → Y → Type 0)
+pub read_ok : {X Y : Type 0} (g : Goal) (Is : Written g → X → Type 0) (Told : Written g → Y → Type 0)
     (before after : Library)
-    (start left : Cursor) (x : X) (y : Y) → ((f : F) → Is f x → Told f y)
-    → ReadsWhole whole Is before after start left (Ok x) → ReadsWhole whole Told before after start left (Ok y)
-read_ok whole Is Told before after start left x y tells reads = record {
+    (start left : Cursor) (x : X) (y : Y) → ((f : Written g) → Is f x → Told f y)
+    → ReadsWhole g Is before after start left (Ok x) → ReadsWhole g Told before after start left (Ok y)
+read_ok g Is Told before after start left x y tells reads = record {
   accepted = (reads.accepted.0, reads.accepted.1, tells reads.accepted.0 reads.accepted.2);
   only = λ f other written. let r = reads.only f other written in (tells f r.0, r.1);
   refused = tt;
 }
 
-pub read_err : {F X Y : Type 0} (whole : F → Demands) (Is : F → X → Type 0) (Told : F → Y → Type 0)
+pub read_err : {X Y : Type 0} (g : Goal) (Is : Written g → X → Type 0) (Told : Written g → Y → Type 0)
     (before after : Library)
     (start left : Cursor) (e : ParseError)
-    → ReadsWhole whole Is before after start left (Err e) → ReadsWhole whole Told before after start left (Err e)
-read_err whole Is Told before after start left e reads = record {
+    → ReadsWhole g Is before after start left (Err e) → ReadsWhole g Told before after start left (Err e)
+read_err g Is Told before after start left e reads = record {
   accepted = tt;
   only = λ f other written. reads.only f other written;
   refused = reads.refused;
@@ -63,10 +64,10 @@ neither true b is = absurd (true≢false is)
 neither false b is = refl
 
 -- Where it may not, the end mark does not come next.
-no_end : (left : Cursor) (spans : List Span) → may_go_on left spans ≡ false → is_end (asked left).lexeme ≡ false
+no_end : (left : Cursor) (spans : List Span) → may_go_on left spans ≡ false → is_end (next_item left).lexeme ≡ false
 no_end left spans is =
-    neither (is_end (asked left).lexeme) (is_unended (asked left).lexeme && (is_end (asked
-    (taking left)).lexeme && touches_end spans)) is
+    neither (is_end (next_item left).lexeme) (is_unended (next_item left).lexeme && (is_end (next_item
+    (after_take left)).lexeme && touches_end spans)) is
 
 -- ---- the promise
 
@@ -81,16 +82,16 @@ module _ (engine : EngineValue) (constants : Constants) (limits : Limits) (text 
   abbrev context : Context
   context = script_context engine constants
 
-  pub script_read : (script : GlobalLevel) → ReadsWhole (scripts context nothing_live)
+  pub script_read : (script : GlobalLevel) → ReadsWhole (Script context nothing_live)
       (IsGlobalLevel after) before after start left (Ok script)
       → HasRead start left false → script.spans ≡ tokens.spans
       → NestsAsWritten context nothing_live before start (reaching script.nest_peak)
       → NestsWithin engine script.nest_peak
       → ReadsTextAsScript engine constants limits text before after (Ok script)
   script_read script reads memory spans deep nests = record {
-    reads = text_read (scripts context nothing_live) (IsGlobalLevel after) before after limits text
+    reads = text_read (Script context nothing_live) (IsGlobalLevel after) before after limits text
         (Ok script) tokens left
-        (refusals_stand_at_tokens.script_named context nothing_live) read reads memory;
+        (refusals_stand_at_tokens.script context nothing_live).named read reads memory;
     given = λ ps is.
         let spelled = read.only ps is.0 is.1 in
         record {
@@ -106,16 +107,16 @@ module _ (engine : EngineValue) (constants : Constants) (limits : Limits) (text 
     memory = tt;
   }
 
-  pub script_refused : (refused : Refused) → ReadsWhole (scripts context nothing_live)
+  pub script_refused : (refused : Refused) → ReadsWhole (Script context nothing_live)
       (IsGlobalLevel after) before after start left (Err refused.error)
       → (is_for_memory refused.error ≡ false → HasRead start left true) → refused.spans ≡ tokens.spans
       → refused.is_incomplete ≡ (if is_for_memory refused.error then false else may_go_on left tokens.spans.items)
       → NestsWithin engine refused.nest_peak
       → ReadsTextAsScript engine constants limits text before after (Err refused)
   script_refused refused reads memory spans incomplete nests = record {
-    reads = text_read (scripts context nothing_live) (IsGlobalLevel after) before after limits text
+    reads = text_read (Script context nothing_live) (IsGlobalLevel after) before after limits text
         (Err refused.error) tokens left
-        (refusals_stand_at_tokens.script_named context nothing_live) read reads memory;
+        (refusals_stand_at_tokens.script context nothing_live).named read reads memory;
     given = λ ps is.
         let spelled = read.only ps is.0 is.1 in
         let same = streams_agree limits tokens ps spelled in
@@ -128,7 +129,7 @@ module _ (engine : EngineValue) (constants : Constants) (limits : Limits) (text 
           incomplete = λ told. goes_on told ∙ ap (may_go_on left) spelled.spans;
           final = λ told ends.
               let r = reads.refused told in
-              is_final (scripts context nothing_live) before limits ps r.0 left
+              is_final (Script context nothing_live) before limits ps r.0 left
               (subst (λ s. Saw r.0 s left) same r.1.saw) r.1.early
               (no_end left tokens.spans.items (sym (goes_on told) ∙ ends));
         };
@@ -160,7 +161,7 @@ module _ (engine : EngineValue) (constants : Constants) (limits : Limits) (text 
       let d0 = subst (λ a. IfOk a (λ read. NestsAsWritten context nothing_live before start
       (reaching script.nest_peak))) ok d in
       script_read script
-      (read_ok (scripts context nothing_live) (λ fs read. IsScript fs nothing_live after read slots modules)
+      (read_ok (Script context nothing_live) (λ f read. IsScript f.0 after read slots modules)
       (IsGlobalLevel after) before after
       start left (script.statements, script.functions) script (λ fs is_script. is_script) r0) m0 spans d0 nests
 
@@ -179,7 +180,7 @@ module _ (engine : EngineValue) (constants : Constants) (limits : Limits) (text 
       let m = subst (λ s. UnlessMemory (HasRead (cursor_of s) left) answer) is memory in
       let m0 = subst (λ a. UnlessMemory (HasRead start left) a) err m in
       script_refused refused
-      (read_err (scripts context nothing_live) (λ fs read. IsScript fs nothing_live after read slots modules)
+      (read_err (Script context nothing_live) (λ f read. IsScript f.0 after read slots modules)
       (IsGlobalLevel after) before after
       start left refused.error r0) m0 spans incomplete nests
 
@@ -191,7 +192,7 @@ pub script_unread : (engine : EngineValue) (constants : Constants) (limits : Lim
 script_unread engine constants limits text before refused error complete peak =
     let out : is_for_memory refused.error ≡ true = ap is_for_memory error in
     record {
-      reads = nothing_read (scripts (script_context engine constants) nothing_live)
+      reads = nothing_read (Script (script_context engine constants) nothing_live)
           (IsGlobalLevel before) before before limits text refused.error out;
       given = λ ps is. record {
         script_spans = tt;

@@ -1,6 +1,6 @@
 -- A script that is read in a new state.
-use Rattle.std.proofs.Common.{◌≡◌, ◌∙◌, ℕ, List, [], Result, false, true, ap, map, refl, subst}
-use Rattle.std.specs.Prelude.{Err, Vec}
+use Rattle.std.proofs.Common.{◌≡◌, ◌∙◌, ◌+◌, ◌-◌, ◌^◌, ◌≤◌, ℕ, List, [], Result, false, true, ap, map, refl, subst}
+use Rattle.std.specs.Prelude.{◌⊎◌, Err, IfOk, Ok, Vec}
 use Rattle.rhai_lower.specs.declared.ast.AST.{AST}
 use Rattle.rhai_lower.specs.declared.optimizer.OptimizationLevel.{OptimizationLevel}
 use Rattle.std.specs.Rc.{rc_str_bytes}
@@ -15,17 +15,19 @@ use Rattle.rhai_lower.specs.Streams.{Stream, stream_of}
 use Rattle.rhai_lower.specs.Texts.{Text}
 use Rattle.rhai_grammar.specs.Contexts.{Context, Live, nothing_live}
 use Rattle.rhai_grammar.specs.Cursors.{Cursor, cursor_of}
-use Rattle.rhai_grammar.specs.Demands.{Demands}
 use Rattle.rhai_grammar.specs.Libraries.{Library}
 use Rattle.rhai_grammar.specs.NumberedLibraries.{IsOrderly}
 use Rattle.rhai_grammar.specs.Causes.{no_memory}
-use Rattle.rhai_grammar.specs.Promises.{HasRead, ReadsWhole, UnlessMemory, expressions, scripts}
-use Rattle.rhai_grammar.specs.Trees.{statement_trees, tree}
+use Rattle.rhai_grammar.specs.Promises.{HasRead, UnlessMemory}
 use Rattle.rhai_grammar.specs.declared.error.ParseError.{ParseError}
 use Rattle.rhai_grammar.specs.declared.filter.ExprFilter.{ExprFilter}
 use Rattle.rhai_grammar.specs.declared.filter.ExprFilter.TheVariants.{All}
-use Rattle.rhai_grammar.proofs.OrderLemmas.{libraries_stay_orderly}
-use Rattle.rhai_base.specs.Counts.{counts_of, none_yet}
+use Rattle.rhai_reading.specs.Reading.{Goal, Script, Whole}
+use Rattle.rhai_grammar.specs.Promises.{ReadsWhole, Written}
+use Rattle.rhai_grammar.specs.Forms.{depth}
+use Rattle.rhai_grammar.specs.Rules.{production}
+use Rattle.rhai_productions.proofs.Orders.{libraries_stay_orderly}
+use Rattle.rhai_base.specs.Counts.{Counts, counts_of, none_yet}
 use Rattle.rhai_base.specs.Frames.{known_variables}
 use Rattle.rhai_base.specs.Libraries.{library_of}
 use Rattle.rhai_base.specs.Settings.{settings_of}
@@ -33,11 +35,13 @@ use Rattle.rhai_base.specs.States.{IsFresh}
 use Rattle.rhai_base.specs.declared.settings.ParseSettings.{ParseSettings}
 use Rattle.rhai_parser.specs.Engines.{EngineValue, expr_settings, script_settings, sizes_of}
 use Rattle.rhai_parser.specs.Scripts.{Constants, IsMadeOf, IsScriptOf, Makes, ReadsScript}
+use Rattle.rhai_parser.specs.Nesting.{NestsAsWritten}
 use Rattle.rhai_parser.specs.Starts.{KeepsOrder, StateValue, live_in, starts_in}
 use Rattle.rhai_tokenizer.specs.Readings.{Reads}
 use Rattle.rhai_tokenizer.specs.declared.limits.Limits.{Limits}
 use Rattle.rhai_tokenizer.specs.declared.tokens.Tokens as T
 use Rattle.rhai_script.specs.Scripts.{ReadsTextAsAst, ReadsTextAsExpression, text_context}
+use Rattle.rhai_script.specs.GlobalLevels.{reaching}
 use Rattle.rhai_script.specs.Texts.{ReadsText}
 use Rattle.rhai_script.proofs.TextLemmas.{StandWhereNamed, nothing_read, text_read}
 
@@ -116,44 +120,44 @@ stays_orderly engine state stream constants after n keeps =
     let l = subst (λ es. KeepsOrder engine none_yet (library_of es) after) n.lib k in
     l (libraries_stay_orderly.empty engine.max_functions)
 
--- What forms demand, and what the answer is, by what they stand in, the functions after it, the constants and what is
--- live before.
-module _ {F X : Type 0} (whole : Context → Live → F → Demands) (Is : Library → Constants → Live → F → X → Type 0)
-    (stand : (context : Context) (live : Live) → StandWhereNamed (whole context live)) where
+-- What is read, and what the answer is, by what a form stands in, the functions after it, and the constants.
+module _ {X : Type 0} (goal : Context → Live → Goal)
+    (Is : Library → Constants → (context : Context) (live : Live) → Written (goal context live) → X → Type 0)
+    (stand : (context : Context) (live : Live) → StandWhereNamed (goal context live)) where
   pub text_parsed : (engine : EngineValue) (chosen settings : ParseSettings) (state : StateValue)
       (constants : Constants)
       (limits : Limits) (text : Text) (result : Result X ParseError) (tokens : T.Tokens) (after : Library)
       (left : Cursor)
       → Reads text limits tokens → chosen ≡ settings
       → IsNew state (stream_of (map ask_of tokens.entries.items) tokens.end) [] constants
-      → ReadsWhole (whole (starts_in engine state chosen) (live_in state)) (Is after state.external_constants
-      (live_in state))
+      → ReadsWhole (goal (starts_in engine state chosen) (live_in state)) (Is after state.external_constants
+      (starts_in engine state chosen) (live_in state))
       (library_of state.lib.now.entries) after (cursor_of state.input.now) left result
       → UnlessMemory (HasRead (cursor_of state.input.now) left) result
-      → ReadsText (whole (text_context engine settings constants) nothing_live)
-      (Is after constants nothing_live) [] after limits text result
+      → ReadsText (goal (text_context engine settings constants) nothing_live)
+      (Is after constants (text_context engine settings constants) nothing_live) [] after limits text result
   text_parsed engine chosen settings state constants limits text result tokens after left r is n parsed memory =
       let stream = stream_of (map ask_of tokens.entries.items) tokens.end in
       let context = text_context engine settings constants in
-      let p = subst (λ s. ReadsWhole (whole (starts_in engine state s) (live_in state))
-      (Is after state.external_constants (live_in state)) (library_of state.lib.now.entries) after
+      let p = subst (λ s. ReadsWhole (goal (starts_in engine state s) (live_in state))
+      (Is after state.external_constants (starts_in engine state s) (live_in state)) (library_of state.lib.now.entries) after
       (cursor_of state.input.now) left result)
       is parsed in
-      let p0 = subst (λ k. ReadsWhole (whole (starts_in engine state settings) (live_in state)) (Is after k
-      (live_in state)) (library_of state.lib.now.entries) after (cursor_of state.input.now) left result)
+      let p0 = subst (λ k. ReadsWhole (goal (starts_in engine state settings) (live_in state)) (Is after k
+      (starts_in engine state settings) (live_in state)) (library_of state.lib.now.entries) after (cursor_of state.input.now) left result)
       n.constants p in
-      let p1 = subst (λ k. ReadsWhole (whole k (live_in state)) (Is after constants (live_in state))
+      let p1 = subst (λ k. ReadsWhole (goal k (live_in state)) (Is after constants k (live_in state))
       (library_of state.lib.now.entries) after (cursor_of state.input.now) left result)
       (context_is engine settings state stream [] constants n) p0 in
-      let p2 = subst (λ w. ReadsWhole (whole context w) (Is after constants w)
+      let p2 = subst (λ w. ReadsWhole (goal context w) (Is after constants context w)
       (library_of state.lib.now.entries) after (cursor_of state.input.now) left result)
       (live_is state stream [] constants n) p1 in
-      let p3 = subst (λ l. ReadsWhole (whole context nothing_live) (Is after constants nothing_live)
+      let p3 = subst (λ l. ReadsWhole (goal context nothing_live) (Is after constants context nothing_live)
       (library_of l) after (cursor_of state.input.now) left result) n.lib p2 in
-      let p4 = subst (λ s. ReadsWhole (whole context nothing_live) (Is after constants nothing_live) [] after
+      let p4 = subst (λ s. ReadsWhole (goal context nothing_live) (Is after constants context nothing_live) [] after
       (cursor_of s) left result) n.input p3 in
-      text_read (whole context nothing_live)
-      (Is after constants nothing_live) [] after limits text result tokens left (stand context nothing_live) r p4
+      text_read (goal context nothing_live)
+      (Is after constants context nothing_live) [] after limits text result tokens left (stand context nothing_live) r p4
       (subst (λ s. UnlessMemory (HasRead (cursor_of s) left) result) n.input memory)
 
 -- ---- the promises of the calls
@@ -161,17 +165,16 @@ module _ {F X : Type 0} (whole : Context → Live → F → Demands) (Is : Libra
 pub a_script : (makes : Makes) (engine : EngineValue) (constants : Constants) (level : OptimizationLevel)
     (limits : Limits)
     (text : Text) (result : Result AST ParseError) (after : Library)
-    → ReadsText (scripts (text_context engine (script_settings engine) constants) nothing_live)
-    (λ fs script. IsMadeOf makes constants level
-    (statement_trees fs nothing_live) after script) [] after limits text result
+    → ReadsText (Script (text_context engine (script_settings engine) constants) nothing_live)
+    (λ f script. IsMadeOf makes constants level f.0.0 after script) [] after limits text result
     → IsOrderly engine.max_functions 0 after → ReadsTextAsAst makes engine constants level limits text result
 a_script makes engine constants level limits text result after r o = record { after = after; reads = r; orderly = o }
 
 pub an_expression : (makes : Makes) (engine : EngineValue) (constants : Constants) (level : OptimizationLevel)
     (limits : Limits)
     (text : Text) (result : Result AST ParseError) (after : Library)
-    → ReadsText (expressions (text_context engine (expr_settings engine) constants) nothing_live)
-    (λ f script. IsScriptOf makes constants level (tree f nothing_live) after script) [] after limits text result
+    → ReadsText (Whole (text_context engine (expr_settings engine) constants) nothing_live)
+    (λ f script. IsScriptOf makes constants level f.0 after script) [] after limits text result
     → IsOrderly engine.max_functions 0 after → ReadsTextAsExpression makes engine constants level limits text result
 an_expression makes engine constants level limits text result after r o =
     record { after = after; reads = r; orderly = o }
@@ -223,6 +226,27 @@ script_parsed engine chosen settings state stream held constants after left resu
     (cursor_of state.input.now) left result slots modules) n.lib p2 in
     subst (λ s. ReadsScript context nothing_live (library_of held) after
     (cursor_of s) left result slots modules) n.input p3
+
+-- so is how deeply readers were nested, of which only the peak counts
+pub nests_parsed : (engine : EngineValue) (chosen settings : ParseSettings) (state : StateValue) (stream : Stream)
+    (held : Functions) (constants : Constants) (counts : Counts) (peak : ℕ) (result : Read)
+    → chosen ≡ settings → counts.peak ≡ peak → IsNew state stream held constants
+    → IfOk result (λ script. NestsAsWritten (starts_in engine state chosen) (live_in state)
+    (library_of state.lib.now.entries) (cursor_of state.input.now) counts)
+    → IfOk result (λ script. NestsAsWritten (text_context engine settings constants) nothing_live (library_of held)
+    (cursor_of stream) (reaching peak))
+nests_parsed engine chosen settings state stream held constants counts peak (Err e) is top n deep = tt
+nests_parsed engine chosen settings state stream held constants counts peak (Ok script) is top n deep =
+    let context = text_context engine settings constants in
+    let p = subst (λ s. NestsAsWritten (starts_in engine state s) (live_in state) (library_of state.lib.now.entries)
+    (cursor_of state.input.now) counts) is deep in
+    let p1 = subst (λ k. NestsAsWritten k (live_in state) (library_of state.lib.now.entries)
+    (cursor_of state.input.now) counts) (context_is engine settings state stream held constants n) p in
+    let p2 = subst (λ w. NestsAsWritten context w (library_of state.lib.now.entries) (cursor_of state.input.now) counts)
+    (live_is state stream held constants n) p1 in
+    let p3 = subst (λ l. NestsAsWritten context nothing_live (library_of l) (cursor_of state.input.now) counts) n.lib p2 in
+    let p4 = subst (λ s. NestsAsWritten context nothing_live (library_of held) (cursor_of s) counts) n.input p3 in
+    λ f written. subst (λ m. (2 ^ 64 - 1 ≤ m) ⊎ (1 + depth production f.1 ≤ m)) top (p4 f written)
 
 -- the same with what is left under other names
 pub script_left : {context : Context} {live : Live} {before : Library} {start : Cursor} {result : Read} {slots : List

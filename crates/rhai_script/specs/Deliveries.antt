@@ -7,7 +7,7 @@ use Rattle.rhai_lower.specs.Texts.{Text}
 use Rattle.rhai_lower.specs.Lexemes.{Faulty, Interpolated, Lexeme, Name, String, UnexpectedInput}
 use Rattle.rhai_lower.specs.Positions.{place}
 use Rattle.rhai_lower.specs.declared.position.Position.{Position}
-use Rattle.rhai_grammar.specs.Cursors.{Cursor, asked}
+use Rattle.rhai_grammar.specs.Cursors.{Cursor, next_item}
 use Rattle.rhai_grammar.specs.Delivered.{code, Ends, Then, Tokens, item}
 use Rattle.rhai_tokenizer.specs.declared.limits.Limits.{Limits}
 use Rattle.rhai_tokenizer.specs.Meanings.{at_start}
@@ -53,7 +53,7 @@ abbrev pub IsPlaceIn : Limits → List Piece → Position → Type 0
 IsPlaceIn limits ps at = IsPlaceOf (items limits at_start ps) (at_place (past start (spelled ps))) at
 
 -- `x` delivers a name.
-example : asked (cursor_in (record { doc_comments = false; max_string_size = 0 }) (Word (codes "x") ∷ []))
+example : next_item (cursor_in (record { doc_comments = false; max_string_size = 0 }) (Word (codes "x") ∷ []))
     ≡ item (Name (codes "x")) (place 1 1)
 unfolding keywords reserved_words
 example = refl

@@ -6,13 +6,13 @@ use Rattle.rhai_lower.specs.Lexemes.{Faulty, Lexeme, UnterminatedString}
 use Rattle.rhai_lower.specs.Texts.{Text}
 use Rattle.rhai_grammar.specs.Causes.{is_for_memory}
 use Rattle.rhai_grammar.specs.Contexts.{Context, nothing_live}
-use Rattle.rhai_grammar.specs.Cursors.{Cursor, asked, taking}
+use Rattle.rhai_grammar.specs.Cursors.{Cursor, next_item, after_take}
 use Rattle.rhai_grammar.specs.Delivered.{is_end}
-use Rattle.rhai_grammar.specs.Demands.{Demands}
-use Rattle.rhai_grammar.specs.Forms.{Statements}
 use Rattle.rhai_grammar.specs.Libraries.{Library}
-use Rattle.rhai_grammar.specs.Promises.{IsWritten, scripts}
+use Rattle.rhai_grammar.specs.Promises.{IsWritten}
 use Rattle.rhai_grammar.specs.declared.error.ParseError.{ParseError}
+use Rattle.rhai_reading.specs.Reading.{Goal, Script}
+use Rattle.rhai_grammar.specs.Promises.{Written, written}
 use Rattle.rhai_base.specs.Counts.{Counts, none_yet}
 use Rattle.rhai_parser.specs.Engines.{EngineValue, script_settings}
 use Rattle.rhai_parser.specs.Nesting.{NestsAsWritten}
@@ -34,10 +34,9 @@ told (Ok script) = Ok script
 told (Err refused) = Err refused.error
 
 -- the statements of a form, the functions of a library, and the slots and imports that are left
-abbrev pub IsGlobalLevel : Library → Statements → GlobalLevel → Type 0
-IsGlobalLevel library fs script =
-    IsScript fs nothing_live library (script.statements, script.functions) script.scope
-    (map rc_str_bytes script.imports.items)
+abbrev pub IsGlobalLevel : {context : Context} → Library → Written (Script context nothing_live) → GlobalLevel → Type 0
+IsGlobalLevel library f script =
+    IsScript f.0 library (script.statements, script.functions) script.scope (map rc_str_bytes script.imports.items)
 
 -- what a script of an engine stands in, with these variables from outside
 abbrev pub script_context : EngineValue → Constants → Context
@@ -61,17 +60,16 @@ touches_end (s ∷ t ∷ u ∷ more) = touches_end (t ∷ u ∷ more)
 -- may be a script. These are the spans of the tokens.
 abbrev pub may_go_on : Cursor → List Span → Bool
 may_go_on left spans =
-    is_end (asked left).lexeme
-    || (is_unended (asked left).lexeme && (is_end (asked (taking left)).lexeme && touches_end spans))
+    is_end (next_item left).lexeme
+    || (is_unended (next_item left).lexeme && (is_end (next_item (after_take left)).lexeme && touches_end spans))
 
 -- No written form has a text whose tokens begin with the first ones of these pieces, which are so many; the end mark is
 -- not among them.
-pub record IsFinal {F : Type 0} (whole : F → Demands) (before : Library) (limits : Limits) (ps : List Piece) : Type 0
-  where
-    pub seen : ℕ
-    pub within : seen ≤ length (items limits at_start ps)
-    pub none : (others : List Piece) → take seen (items limits at_start others) ≡ take seen (items limits at_start ps)
-        → (f : F) → IsWritten whole f before (cursor_in limits others) → ⊥
+pub record IsFinal (g : Goal) (before : Library) (limits : Limits) (ps : List Piece) : Type 0 where
+  pub seen : ℕ
+  pub within : seen ≤ length (items limits at_start ps)
+  pub none : (others : List Piece) → take seen (items limits at_start others) ≡ take seen (items limits at_start ps)
+      → (f : Written g) → IsWritten (written g) f before (cursor_in limits others) → ⊥
 
 -- ---- the promise
 
@@ -98,14 +96,14 @@ pub record IsGiven (context : Context) (limits : Limits) (ps : List Piece) (befo
     pub incomplete : IfErr result (λ r. is_for_memory r.error ≡ false
         → r.is_incomplete ≡ may_go_on left (spans limits at_start 0 ps))
     pub final : IfErr result (λ r. is_for_memory r.error ≡ false → r.is_incomplete ≡ false
-        → IsFinal (scripts context nothing_live) before limits ps)
+        → IsFinal (Script context nothing_live) before limits ps)
 
 -- A text is read as a script, after the functions of a library. A script gives its statements, all functions that there
 -- are then, and the slots and imports that it leaves.
 pub record ReadsTextAsScript (engine : EngineValue) (constants : Constants) (limits : Limits) (text : Text)
     (before after : Library) (result : Result GlobalLevel Refused) : Type 0
   where
-    pub reads : ReadsText (scripts (script_context engine constants) nothing_live) (IsGlobalLevel after) before after
+    pub reads : ReadsText (Script (script_context engine constants) nothing_live) (IsGlobalLevel after) before after
         limits text (told result)
     pub given : (ps : List Piece) (is : IsTextOf limits ps text)
         → IsGiven (script_context engine constants) limits ps before (reads.reads ps is).left result

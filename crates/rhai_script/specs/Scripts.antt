@@ -6,10 +6,9 @@ use Rattle.rhai_lower.specs.declared.optimizer.OptimizationLevel.{OptimizationLe
 use Rattle.rhai_grammar.specs.Contexts.{Context, nothing_live}
 use Rattle.rhai_grammar.specs.Libraries.{Library}
 use Rattle.rhai_grammar.specs.NumberedLibraries.{IsOrderly}
-use Rattle.rhai_grammar.specs.Promises.{expressions, scripts}
-use Rattle.rhai_grammar.specs.Trees.{statement_trees, tree}
 use Rattle.rhai_grammar.specs.declared.error.ParseError.{ParseError}
 use Rattle.rhai_grammar.specs.declared.filter.ExprFilter.TheVariants.{All}
+use Rattle.rhai_reading.specs.Reading.{Script, Whole}
 use Rattle.rhai_base.specs.Frames.{known_variables}
 use Rattle.rhai_base.specs.Settings.{settings_of}
 use Rattle.rhai_base.specs.declared.settings.ParseSettings.{ParseSettings}
@@ -35,9 +34,8 @@ pub record ReadsTextAsAst (makes : Makes) (engine : EngineValue) (constants : Co
     (limits : Limits) (text : Text) (result : Result AST ParseError) : Type 0
   where
     pub after : Library
-    pub reads : ReadsText (scripts (text_context engine (script_settings engine) constants) nothing_live)
-        (λ fs script. IsMadeOf makes constants level (statement_trees fs nothing_live) after script) [] after limits
-        text result
+    pub reads : ReadsText (Script (text_context engine (script_settings engine) constants) nothing_live)
+        (λ f script. IsMadeOf makes constants level f.0.0 after script) [] after limits text result
     pub orderly : IsOrderly engine.max_functions 0 after
 
 -- the same of a text that is one expression
@@ -45,6 +43,6 @@ pub record ReadsTextAsExpression (makes : Makes) (engine : EngineValue) (constan
     (level : OptimizationLevel) (limits : Limits) (text : Text) (result : Result AST ParseError) : Type 0
   where
     pub after : Library
-    pub reads : ReadsText (expressions (text_context engine (expr_settings engine) constants) nothing_live)
-        (λ f script. IsScriptOf makes constants level (tree f nothing_live) after script) [] after limits text result
+    pub reads : ReadsText (Whole (text_context engine (expr_settings engine) constants) nothing_live)
+        (λ f script. IsScriptOf makes constants level f.0 after script) [] after limits text result
     pub orderly : IsOrderly engine.max_functions 0 after

@@ -73,8 +73,8 @@ fn test_nested(
     test_script(rt, alloc, &engine, Change::Nothing, (&line, wanted))
 }
 
-// The peak is at least the number of forms one in another, with the entry, and at most eight for each level that a
-// script and a function may have, and for two more.
+// The peak is at least the number of forms one in another, with the entry point. It is at most eight for each level
+// that a script and a function may have, and for two more.
 fn nested_to_the_limit_of_a_script(rt: &impl Abort, alloc: Global) -> Result<(), AllocError> {
     for (parts, times, wanted) in [
         (("( ", "1", " )"), 31, "accepted"),

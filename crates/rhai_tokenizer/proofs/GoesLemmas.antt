@@ -12,7 +12,7 @@ use Rattle.rhai_tokenizer.specs.Places.{past}
 use Rattle.rhai_tokenizer.specs.Strings.{Part, Plain, LineEnd, Escaped, Coded, Doubled, Continues, Wrong, Cut, Ending, Closed, Unended, Interpolates, Style, Quote, Tick, Apostrophe, Fault, escapes, part_letters, string_letters, string_fits, part_value, string_value, spoiled, fault_at, or_fault, first_fault, continued, character}
 use Rattle.rhai_tokenizer.specs.CuttingStrings.{part_at, ending_at, parts_from, parts_length, ending_after, is_sure}
 use Rattle.rhai_tokenizer.specs.StringTurns.{Goes, end_of, letters_of, value_of, wrong_of}
-use Rattle.rhai_tokenizer.proofs.PlaceLemmas.{past-append}
+use Rattle.rhai_tokenizer.proofs.PositionLemmas.{past-append}
 use Rattle.rhai_tokenizer.proofs.BoundaryLemmas.{before, ends}
 use Rattle.rhai_tokenizer.proofs.PartLemmas.{PartStands, Stand, part_stands}
 use Rattle.rhai_tokenizer.proofs.StringLemmas.{string_stands, one_part}

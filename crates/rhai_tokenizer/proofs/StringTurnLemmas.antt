@@ -21,7 +21,7 @@ use Rattle.rhai_tokenizer.specs.Bytes.{begins_any}
 use Rattle.rhai_tokenizer.specs.Runs.{first_of}
 use Rattle.rhai_tokenizer.specs.StringTurns.{Goes, IsContent, Took, PassesSpaces, end_of, fault_of, letters_of, value_of, wrong_of}
 use Rattle.rhai_tokenizer.specs.StringTurns as turns
-use Rattle.rhai_tokenizer.proofs.PlaceLemmas.{past-append}
+use Rattle.rhai_tokenizer.proofs.PositionLemmas.{past-append}
 use Rattle.rhai_tokenizer.proofs.BlankLemmas.{first_none, run_ends, run_goes}
 use Rattle.rhai_tokenizer.proofs.BoundaryLemmas.{whole, space_utf8}
 use Rattle.rhai_tokenizer.proofs.ByteLemmas.{begins_split, first_of-member}

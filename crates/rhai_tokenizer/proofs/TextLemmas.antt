@@ -29,7 +29,7 @@ use Rattle.rhai_tokenizer.specs.StringTurns.{IsContent}
 use Rattle.rhai_tokenizer.specs.Turns.{IsFront, IsIn, IsTurn, Joins, found_of, place_of}
 use Rattle.rhai_tokenizer.proofs.FirstLemmas.{ClassFacts, class_facts}
 use Rattle.rhai_tokenizer.proofs.FrontLemmas.{quoted_is}
-use Rattle.rhai_tokenizer.proofs.PlaceLemmas.{past-append}
+use Rattle.rhai_tokenizer.proofs.PositionLemmas.{past-append}
 use Rattle.rhai_tokenizer.proofs.StepLemmas.{front_turn}
 use Rattle.rhai_tokenizer.proofs.StringTurnLemmas.{turn_ends}
 

@@ -15,9 +15,9 @@ use Rattle.rhai_lower.specs.declared.ast.SwitchCase.{SwitchCase}
 use Rattle.rhai_grammar.specs.CaseValues.{same_value}
 use Rattle.rhai_grammar.specs.Switches.{with_value}
 use Rattle.rhai_trees.specs.contracts.case_index.CaseKeyPartialEq.TheImpl.{eq-value}
-use Rattle.rhai_trees.specs.CaseKeys.{IsKey, Keyed, case_count, digest_of, has_digest, is_plain, key_value, numbered, parts_key, place_in, place_of, plain_value, same_case, with_digest}
+use Rattle.rhai_trees.specs.CaseKeys.{IsKey, Keyed, case_count, digest_of, has_digest, is_plain, key_value, numbered, parts_key, place_in, numbered_case, plain_value, same_case, with_digest}
 use Rattle.rhai_trees.specs.Digests.{digest, is_regular}
-use Rattle.rhai_trees.specs.Switches.{case_place}
+use Rattle.rhai_trees.specs.Switches.{case_number}
 use Rattle.rhai_trees.proofs.SwitchLemmas.{place_none}
 use Rattle.rhai_trees.specs.declared.case_index.CaseKey.{CaseKey}
 use Rattle.rhai_trees.specs.declared.case_index.CaseKey.TheVariants as key
@@ -26,42 +26,42 @@ use Rattle.rhai_trees.proofs.DigestLemmas.{digests_kept, digests_pushed, from_ze
 
 -- ---- places
 
-pub place_alike : (cs : Cases) (x p : Node) → ((y : Node) → same_value y x ≡ same_value y p) → case_place cs x ≡ case_place cs p
+pub place_alike : (cs : Cases) (x p : Node) → ((y : Node) → same_value y x ≡ same_value y p) → case_number cs x ≡ case_number cs p
 place_alike node.no_cases x p h = refl
 place_alike (node.one_case y indices cs) x p h =
-    ap (λ b. if b then Some 0 else option_map (λ n. n + 1) (case_place cs x)) (h y)
+    ap (λ b. if b then Some 0 else option_map (λ n. n + 1) (case_number cs x)) (h y)
     ∙ ap (λ o. if same_value y p then Some 0 else option_map (λ n. n + 1) o) (place_alike cs x p h)
 
-pub place_inside : (cs : Cases) (x : Node) (n : ℕ) → case_place cs x ≡ Some n → n < case_count cs
+pub place_inside : (cs : Cases) (x : Node) (n : ℕ) → case_number cs x ≡ Some n → n < case_count cs
 place_inside node.no_cases x n e = absurd cc
-place_inside (node.one_case y more cs) x n e = by (same_value y x) (case_place cs x) (place_inside cs x) e
+place_inside (node.one_case y more cs) x n e = by (same_value y x) (case_number cs x) (place_inside cs x) e
   where
     by : (b : Bool) (o : Option ℕ) → ((m : ℕ) → o ≡ Some m → m < case_count cs) → (if b then Some 0 else option_map (λ n. n + 1) o) ≡ Some n → n < case_count cs + 1
     by true o h e = omega (arith, ap (λ p. unwrap_or p 0) e)
     by false None h e = absurd cc
     by false (Some m) h e = omega (arith, h m refl, ap (λ p. unwrap_or p 0) e)
 
-pub place_pushed : (cs : Cases) (x y : Node) (indices : List ℕ) → case_place (node.with_case cs x indices) y ≡ option_or (case_place cs y) (if same_value x y then Some (case_count cs) else None)
+pub place_pushed : (cs : Cases) (x y : Node) (indices : List ℕ) → case_number (node.with_case cs x indices) y ≡ option_or (case_number cs y) (if same_value x y then Some (case_count cs) else None)
 place_pushed node.no_cases x y indices = by (same_value x y) (Some 0)
   where
     by : (b : Bool) (o : Option ℕ) → (if b then o else None) ≡ option_or None (if b then o else None)
     by true o = refl
     by false o = refl
-place_pushed (node.one_case z more cs) x y indices = by (same_value z y) (case_place cs y) (same_value x y) (place_pushed cs x y indices)
+place_pushed (node.one_case z more cs) x y indices = by (same_value z y) (case_number cs y) (same_value x y) (place_pushed cs x y indices)
   where
-    by : (b : Bool) (o : Option ℕ) (same : Bool) → case_place (node.with_case cs x indices) y ≡ option_or o (if same then Some (case_count cs) else None) → (if b then Some 0 else option_map (λ n. n + 1) (case_place (node.with_case cs x indices) y)) ≡ option_or (if b then Some 0 else option_map (λ n. n + 1) o) (if same then Some (case_count cs + 1) else None)
+    by : (b : Bool) (o : Option ℕ) (same : Bool) → case_number (node.with_case cs x indices) y ≡ option_or o (if same then Some (case_count cs) else None) → (if b then Some 0 else option_map (λ n. n + 1) (case_number (node.with_case cs x indices) y)) ≡ option_or (if b then Some 0 else option_map (λ n. n + 1) o) (if same then Some (case_count cs + 1) else None)
     by true o same h = refl
     by false None true h = ap (option_map (λ n. n + 1)) h
     by false None false h = ap (option_map (λ n. n + 1)) h
     by false (Some m) same h = ap (option_map (λ n. n + 1)) h
 
-place_kept : (cs : Cases) (x y : Node) (index n : ℕ) → case_place cs x ≡ Some n → case_place (with_value cs x index) y ≡ case_place cs y
-place_kept cs x y index n e = kept_by (λ ds. case_place ds y) (λ z o. if same_value z y then Some 0 else option_map (λ n. n + 1) o) (λ z more ds. refl) cs x index n e
+place_kept : (cs : Cases) (x y : Node) (index n : ℕ) → case_number cs x ≡ Some n → case_number (with_value cs x index) y ≡ case_number cs y
+place_kept cs x y index n e = kept_by (λ ds. case_number ds y) (λ z o. if same_value z y then Some 0 else option_map (λ n. n + 1) o) (λ z more ds. refl) cs x index n e
 
 -- ---- places by keys
 
 -- a place by its key, where neither the places of values nor the cases with a digest change
-place_by : (cs ds : Cases) → ((p : Node) → case_place ds p ≡ case_place cs p) → ((o : Option ℕ) → with_digest o 0 ds ≡ with_digest o 0 cs) → (q : CaseKey) → place_of ds q ≡ place_of cs q
+place_by : (cs ds : Cases) → ((p : Node) → case_number ds p ≡ case_number cs p) → ((o : Option ℕ) → with_digest o 0 ds ≡ with_digest o 0 cs) → (q : CaseKey) → numbered_case ds q ≡ numbered_case cs q
 place_by cs ds h g (key.Parts d n) = ap (λ l. option_map (λ c. c.0) (numbered l n)) (g (Some d))
 place_by cs ds h g (key.Irregular n) = ap (λ l. option_map (λ c. c.0) (numbered l n)) (g None)
 place_by cs ds h g key.Unit = h _
@@ -72,7 +72,7 @@ place_by cs ds h g (key.Text t) = h _
 place_by cs ds h g (key.Pointer t n) = h _
 place_by cs ds h g (key.Range b m n) = h _
 
-plain_place : (k : CaseKey) (cs : Cases) → is_plain k ≡ true → place_of cs k ≡ case_place cs (key_value k)
+plain_place : (k : CaseKey) (cs : Cases) → is_plain k ≡ true → numbered_case cs k ≡ case_number cs (key_value k)
 plain_place (key.Parts d n) cs plain = absurd cc
 plain_place (key.Irregular n) cs plain = absurd cc
 plain_place key.Unit cs plain = refl
@@ -84,28 +84,28 @@ plain_place (key.Pointer t n) cs plain = refl
 plain_place (key.Range b m n) cs plain = refl
 
 -- equal keys have one place
-alike_place : (cs : Cases) (q k : CaseKey) → same_case q k ≡ true → place_of cs q ≡ place_of cs k
+alike_place : (cs : Cases) (q k : CaseKey) → same_case q k ≡ true → numbered_case cs q ≡ numbered_case cs k
 alike_place cs (key.Parts d m) (key.Parts f n) e =
     let parts = and_parts (d == f) (m == n) e in
-    ap (λ g. place_of cs (key.Parts g m)) ((unsigned_Decides d f).0 parts.0) ∙ ap (λ l. place_of cs (key.Parts f l)) ((unsigned_Decides m n).0 parts.1)
-alike_place cs (key.Irregular m) (key.Irregular n) e = ap (λ l. place_of cs (key.Irregular l)) ((unsigned_Decides m n).0 e)
+    ap (λ g. numbered_case cs (key.Parts g m)) ((unsigned_Decides d f).0 parts.0) ∙ ap (λ l. numbered_case cs (key.Parts f l)) ((unsigned_Decides m n).0 parts.1)
+alike_place cs (key.Irregular m) (key.Irregular n) e = ap (λ l. numbered_case cs (key.Irregular l)) ((unsigned_Decides m n).0 e)
 alike_place cs key.Unit key.Unit e = refl
-alike_place cs (key.Boolean a) (key.Boolean b) e = ap (case_place cs) (equal_keys (key.Boolean a) (key.Boolean b) e)
-alike_place cs (key.Integer a) (key.Integer b) e = ap (case_place cs) (equal_keys (key.Integer a) (key.Integer b) e)
-alike_place cs (key.Character a) (key.Character b) e = ap (case_place cs) (equal_keys (key.Character a) (key.Character b) e)
-alike_place cs (key.Text a) (key.Text b) e = ap (case_place cs) (equal_keys (key.Text a) (key.Text b) e)
-alike_place cs (key.Pointer a m) (key.Pointer b n) e = ap (case_place cs) (equal_keys (key.Pointer a m) (key.Pointer b n) e)
-alike_place cs (key.Range a b c) (key.Range d f g) e = ap (case_place cs) (equal_keys (key.Range a b c) (key.Range d f g) e)
+alike_place cs (key.Boolean a) (key.Boolean b) e = ap (case_number cs) (equal_keys (key.Boolean a) (key.Boolean b) e)
+alike_place cs (key.Integer a) (key.Integer b) e = ap (case_number cs) (equal_keys (key.Integer a) (key.Integer b) e)
+alike_place cs (key.Character a) (key.Character b) e = ap (case_number cs) (equal_keys (key.Character a) (key.Character b) e)
+alike_place cs (key.Text a) (key.Text b) e = ap (case_number cs) (equal_keys (key.Text a) (key.Text b) e)
+alike_place cs (key.Pointer a m) (key.Pointer b n) e = ap (case_number cs) (equal_keys (key.Pointer a m) (key.Pointer b n) e)
+alike_place cs (key.Range a b c) (key.Range d f g) e = ap (case_number cs) (equal_keys (key.Range a b c) (key.Range d f g) e)
 alike_place cs _ _ e = absurd cc
 
 -- The law of a key with one more case, from what it says of keys that stand for values, and of the others.
 abbrev Law : Cases → CaseKey → CaseKey → Option ℕ → Type 0
-Law cs k q more = more ≡ option_or (place_of cs q) (if same_case q k then Some (case_count cs) else None)
+Law cs k q more = more ≡ option_or (numbered_case cs q) (if same_case q k then Some (case_count cs) else None)
 
 law_by : (cs : Cases) (x : Node) (k : CaseKey) (indices : List ℕ)
-    → ((q : CaseKey) → is_plain q ≡ true → case_place (node.with_case cs x indices) (key_value q) ≡ option_or (case_place cs (key_value q)) (if same_case q k then Some (case_count cs) else None))
+    → ((q : CaseKey) → is_plain q ≡ true → case_number (node.with_case cs x indices) (key_value q) ≡ option_or (case_number cs (key_value q)) (if same_case q k then Some (case_count cs) else None))
     → ((o : Option ℕ) (n : ℕ) → option_map (λ c. c.0) (numbered (with_digest o 0 (node.with_case cs x indices)) n) ≡ option_or (option_map (λ c. c.0) (numbered (with_digest o 0 cs) n)) (if same_case (parts_key o n) k then Some (case_count cs) else None))
-    → (q : CaseKey) → Law cs k q (place_of (node.with_case cs x indices) q)
+    → (q : CaseKey) → Law cs k q (numbered_case (node.with_case cs x indices) q)
 law_by cs x k indices h g (key.Parts d n) = g (Some d) n
 law_by cs x k indices h g (key.Irregular n) = g None n
 law_by cs x k indices h g key.Unit = h key.Unit refl
@@ -134,11 +134,11 @@ plain_key cs x k plain e = record {
   more = λ n indices. law_by cs x k indices (λ q l. value indices q) (parts indices);
 }
   where
-    value : (indices : List ℕ) (q : CaseKey) → case_place (node.with_case cs x indices) (key_value q) ≡ option_or (case_place cs (key_value q)) (if same_case q k then Some (case_count cs) else None)
+    value : (indices : List ℕ) (q : CaseKey) → case_number (node.with_case cs x indices) (key_value q) ≡ option_or (case_number cs (key_value q)) (if same_case q k then Some (case_count cs) else None)
     value indices q =
         let same = plain_left x (key_value k) (key_value q) (sym e) ∙ keys_compared k q plain ∙ case_symm k q in
         place_pushed cs x (key_value q) indices
-        ∙ ap (λ b. option_or (case_place cs (key_value q)) (if b then Some (case_count cs) else None)) same
+        ∙ ap (λ b. option_or (case_number cs (key_value q)) (if b then Some (case_count cs) else None)) same
 
     parts : (indices : List ℕ) (o : Option ℕ) (m : ℕ) → option_map (λ c. c.0) (numbered (with_digest o 0 (node.with_case cs x indices)) m) ≡ option_or (option_map (λ c. c.0) (numbered (with_digest o 0 cs) m)) (if same_case (parts_key o m) k then Some (case_count cs) else None)
     parts indices o m =
@@ -175,20 +175,20 @@ digest_is None false d None e = refl
 digest_is None false d (Some f) e = absurd cc
 
 -- a value that has no key of its own, where no case is equal to it
-pub parts_is_key : (cs : Cases) (x : Node) (m : ℕ) → plain_value x ≡ None → case_place cs x ≡ None → m ≡ length (with_digest (digest_of x) 0 cs) → IsKey cs x (parts_key (digest_of x) m)
+pub parts_is_key : (cs : Cases) (x : Node) (m : ℕ) → plain_value x ≡ None → case_number cs x ≡ None → m ≡ length (with_digest (digest_of x) 0 cs) → IsKey cs x (parts_key (digest_of x) m)
 parts_is_key cs x m none absent is = record {
   place = by_digest (digest_of x) m ∙ ap (option_map (λ c. c.0)) (past_numbers (with_digest (digest_of x) 0 cs) m (omega (arith, is))) ∙ sym absent;
   more = λ n indices. law_by cs x (parts_key (digest_of x) m) indices (value indices) (parts indices);
 }
   where
-    by_digest : (o : Option ℕ) (n : ℕ) → place_of cs (parts_key o n) ≡ option_map (λ c. c.0) (numbered (with_digest o 0 cs) n)
+    by_digest : (o : Option ℕ) (n : ℕ) → numbered_case cs (parts_key o n) ≡ option_map (λ c. c.0) (numbered (with_digest o 0 cs) n)
     by_digest None n = refl
     by_digest (Some d) n = refl
 
-    value : (indices : List ℕ) (q : CaseKey) → is_plain q ≡ true → case_place (node.with_case cs x indices) (key_value q) ≡ option_or (case_place cs (key_value q)) (if same_case q (parts_key (digest_of x) m) then Some (case_count cs) else None)
+    value : (indices : List ℕ) (q : CaseKey) → is_plain q ≡ true → case_number (node.with_case cs x indices) (key_value q) ≡ option_or (case_number cs (key_value q)) (if same_case q (parts_key (digest_of x) m) then Some (case_count cs) else None)
     value indices q plain =
         place_pushed cs x (key_value q) indices
-        ∙ ap (λ b. option_or (case_place cs (key_value q)) (if b then Some (case_count cs) else None)) (no_plain x q none ∙ sym (apart (digest_of x) m q plain) ∙ case_symm (parts_key (digest_of x) m) q)
+        ∙ ap (λ b. option_or (case_number cs (key_value q)) (if b then Some (case_count cs) else None)) (no_plain x q none ∙ sym (apart (digest_of x) m q plain) ∙ case_symm (parts_key (digest_of x) m) q)
 
     first : (o : Option (ℕ × Node)) (b : Bool) → option_map (λ c. c.0) (option_or o (if b then Some (placed (0 + case_count cs) x) else None)) ≡ option_or (option_map (λ c. c.0) o) (if b then Some (case_count cs) else None)
     first None true = ap Some (omega arith)
@@ -216,7 +216,7 @@ parts_is_key cs x m none absent is = record {
 pub no_keys : (keys : List CaseKey) → length keys ≡ 0 → Keyed keys node.no_cases
 no_keys [] e = record { found = none; count = refl }
   where
-    none : (q : CaseKey) → None ≡ place_of node.no_cases q
+    none : (q : CaseKey) → None ≡ numbered_case node.no_cases q
     none (key.Parts d n) = refl
     none (key.Irregular n) = refl
     none key.Unit = refl
@@ -228,10 +228,10 @@ no_keys [] e = record { found = none; count = refl }
     none (key.Range b m n) = refl
 no_keys (k ∷ keys) e = absurd (omega (arith, e))
 
-pub kept_keys : (keys : List CaseKey) (cs ds : Cases) (x : Node) (index n : ℕ) → Keyed keys cs → case_place cs x ≡ Some n → ds ≡ with_value cs x index → Keyed keys ds
+pub kept_keys : (keys : List CaseKey) (cs ds : Cases) (x : Node) (index n : ℕ) → Keyed keys cs → case_number cs x ≡ Some n → ds ≡ with_value cs x index → Keyed keys ds
 kept_keys keys cs ds x index n p e f = record {
   found = λ q. p.found q ∙ sym (place_by cs (with_value cs x index) (λ y. place_kept cs x y index n e) (λ o. digests_kept cs x index n o 0 e) q)
-      ∙ ap (λ c. place_of c q) (sym f);
+      ∙ ap (λ c. numbered_case c q) (sym f);
   count = p.count ∙ sym (kept_by case_count (λ z k. k + 1) (λ z more ds. refl) cs x index n e) ∙ ap case_count (sym f);
 }
 
@@ -243,7 +243,7 @@ pub count_cases : (cs : List SwitchCase) → case_count (case_views cs) ≡ leng
 count_cases [] = refl
 count_cases (c ∷ cs) = omega (arith, count_cases cs)
 
-pub inside_cases : (cs : List SwitchCase) (x : Node) (n : ℕ) → case_place (case_views cs) x ≡ Some n → n < length cs
+pub inside_cases : (cs : List SwitchCase) (x : Node) (n : ℕ) → case_number (case_views cs) x ≡ Some n → n < length cs
 inside_cases cs x n e = omega (arith, place_inside (case_views cs) x n e, count_cases cs)
 
 -- what the list of keys is after the key of a value was added, unless it was there
@@ -260,9 +260,9 @@ keyed keys more cs ds x k index None p own a e =
     record {
       found = λ q. a.1 q
           ∙ ap (λ o. option_or o (if same_case q k then Some (length keys) else None)) (p.found q)
-          ∙ ap (λ n. option_or (place_of cs q) (if same_case q k then Some n else None)) p.count
+          ∙ ap (λ n. option_or (numbered_case cs q) (if same_case q k then Some n else None)) p.count
           ∙ sym (own.more absent (index ∷ []) q)
-          ∙ ap (λ c. place_of c q) (sym pushed);
+          ∙ ap (λ c. numbered_case c q) (sym pushed);
       count = a.2 ∙ ap (λ n. n + 1) p.count ∙ sym (pushed_count cs x (index ∷ [])) ∙ ap case_count (sym pushed);
     }
 keyed keys more cs ds x k index (Some n) p own a e =

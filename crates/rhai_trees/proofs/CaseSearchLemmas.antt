@@ -11,7 +11,7 @@ use Rattle.rhai_lower.specs.declared.position.Position.{Position}
 use Rattle.rhai_grammar.specs.CaseValues.{IntegerRange, inclusion, range_of, range_over, same_range, same_value}
 use Rattle.rhai_trees.specs.CaseKeys.{IsKey, Keyed, digest_of, first_same, has_digest, numbered, parts_key, place_in, plain_value, range_value, with_digest}
 use Rattle.rhai_trees.specs.Digests.{digest, is_regular}
-use Rattle.rhai_trees.specs.Switches.{case_place}
+use Rattle.rhai_trees.specs.Switches.{case_number}
 use Rattle.rhai_trees.specs.declared.case_index.CaseKey.{CaseKey}
 use Rattle.rhai_trees.specs.declared.case_index.CaseKey.TheVariants as key
 use Rattle.rhai_trees.proofs.CaseIndexLemmas.{parts_is_key}
@@ -70,7 +70,7 @@ plain_apart _ x q f e = absurd cc
 -- ---- which cases are looked through
 
 -- Where each case has a digest, a value is equal to the first case that is equal to it and has its digest.
-pub regular_place : (cs : Cases) (x : Node) (k : ℕ) → plain_value x ≡ None → with_digest None k cs ≡ [] → first_same x (with_digest (Some (digest x)) k cs) ≡ option_map (λ n. n + k) (case_place cs x)
+pub regular_place : (cs : Cases) (x : Node) (k : ℕ) → plain_value x ≡ None → with_digest None k cs ≡ [] → first_same x (with_digest (Some (digest x)) k cs) ≡ option_map (λ n. n + k) (case_number cs x)
 regular_place node.no_cases x k none regular = refl
 regular_place (node.one_case y more cs) x k none regular =
     by (plain_value y) refl (is_regular y) refl (same_value y x) refl (digest y == digest x) refl regular (regular_place cs x (k + 1) none)
@@ -79,26 +79,26 @@ regular_place (node.one_case y more cs) x k none regular =
     rest = with_digest (Some (digest x)) (k + 1) cs
 
     later : ℕ → Option ℕ
-    later j = option_map (λ n. n + j) (case_place cs x)
+    later j = option_map (λ n. n + j) (case_number cs x)
 
     by : (p : Option Node) → plain_value y ≡ p → (r : Bool) → is_regular y ≡ r → (s : Bool) → same_value y x ≡ s → (d : Bool) → (digest y == digest x) ≡ d
         → (if not (is_some p) && not r then (k, y) ∷ with_digest None (k + 1) cs else with_digest None (k + 1) cs) ≡ []
         → (with_digest None (k + 1) cs ≡ [] → first_same x rest ≡ later (k + 1))
-        → first_same x (if not (is_some p) && (r && d) then (k, y) ∷ rest else rest) ≡ option_map (λ n. n + k) (if s then Some 0 else option_map (λ n. n + 1) (case_place cs x))
+        → first_same x (if not (is_some p) && (r && d) then (k, y) ∷ rest else rest) ≡ option_map (λ n. n + k) (if s then Some 0 else option_map (λ n. n + 1) (case_number cs x))
     by (Some q) e r f true g d h none_before next = absurd (true≢false (sym g ∙ plain_apart y x q e none))
-    by (Some q) e r f false g d h none_before next = next none_before ∙ further k (case_place cs x)
+    by (Some q) e r f false g d h none_before next = next none_before ∙ further k (case_number cs x)
     by None e false f s g d h none_before next = absurd cc
     by None e true f true g true h none_before next = ap (λ b. if b then Some k else first_same x rest) g ∙ ap Some (omega arith)
     by None e true f true g false h none_before next =
         absurd (true≢false (sym ((unsigned_Decides (digest y) (digest x)).1 (same_digest y x f g)) ∙ h))
     by None e true f false g true h none_before next =
-        ap (λ b. if b then Some k else first_same x rest) g ∙ next none_before ∙ further k (case_place cs x)
-    by None e true f false g false h none_before next = next none_before ∙ further k (case_place cs x)
+        ap (λ b. if b then Some k else first_same x rest) g ∙ next none_before ∙ further k (case_number cs x)
+    by None e true f false g false h none_before next = next none_before ∙ further k (case_number cs x)
 
 -- A value that is equal to no case is equal to none of those with a digest.
-pub none_among : (cs : Cases) (x : Node) (o : Option ℕ) (k : ℕ) → case_place cs x ≡ None → first_same x (with_digest o k cs) ≡ None
+pub none_among : (cs : Cases) (x : Node) (o : Option ℕ) (k : ℕ) → case_number cs x ≡ None → first_same x (with_digest o k cs) ≡ None
 none_among node.no_cases x o k e = refl
-none_among (node.one_case y more cs) x o k e = by (has_digest o y) (same_value y x) refl (case_place cs x) (none_among cs x o (k + 1)) e
+none_among (node.one_case y more cs) x o k e = by (has_digest o y) (same_value y x) refl (case_number cs x) (none_among cs x o (k + 1)) e
   where
     by : (b s : Bool) → same_value y x ≡ s → (p : Option ℕ) → (p ≡ None → first_same x (with_digest o (k + 1) cs) ≡ None) → (if s then Some 0 else option_map (λ n. n + 1) p) ≡ None → first_same x (if b then (k, y) ∷ with_digest o (k + 1) cs else with_digest o (k + 1) cs) ≡ None
     by b true g p h e = absurd cc
@@ -191,7 +191,7 @@ inside_numbers (b ∷ cs) o n place e =
 pub ruleset numbers = (by_number, inside_numbers)
 
 -- the walk ends: no case is equal to the value, which gets this number
-pub new_here : (cs : Cases) (x : Node) (o : Option ℕ) (n : ℕ) → plain_value x ≡ None → o ≡ digest_of x → first_from x (with_digest o 0 cs) n ≡ case_place cs x → n ≤ length (with_digest o 0 cs) → length (with_digest o 0 cs) ≤ n → (case_place cs x ≡ None) × IsKey cs x (parts_key o n)
+pub new_here : (cs : Cases) (x : Node) (o : Option ℕ) (n : ℕ) → plain_value x ≡ None → o ≡ digest_of x → first_from x (with_digest o 0 cs) n ≡ case_number cs x → n ≤ length (with_digest o 0 cs) → length (with_digest o 0 cs) ≤ n → (case_number cs x ≡ None) × IsKey cs x (parts_key o n)
 new_here cs x o n none is rest few many =
     let absent = sym rest ∙ end_from x (with_digest o 0 cs) n many in (
       absent,
@@ -220,7 +220,7 @@ some_here cs x o n place d same e tested =
     )
 
 -- where each case has a digest, and the value too
-pub regular_here : (cs : Cases) (x : Node) (o : Option ℕ) → plain_value x ≡ None → o ≡ digest_of x → is_some o ≡ true → (p : Option ℕ) → false ≡ is_some p → p ≡ option_map (λ c. c.0) (numbered (with_digest None 0 cs) 0) → first_same x (with_digest o 0 cs) ≡ case_place cs x
+pub regular_here : (cs : Cases) (x : Node) (o : Option ℕ) → plain_value x ≡ None → o ≡ digest_of x → is_some o ≡ true → (p : Option ℕ) → false ≡ is_some p → p ≡ option_map (λ c. c.0) (numbered (with_digest None 0 cs) 0) → first_same x (with_digest o 0 cs) ≡ case_number cs x
 regular_here cs x o none is some p absent found = by (is_regular x) refl
   where
     no_place : (p : Option ℕ) → false ≡ is_some p → p ≡ None
@@ -231,9 +231,9 @@ regular_here cs x o none is some p absent found = by (is_regular x) refl
     empty [] e = refl
     empty (c ∷ l) e = absurd cc
 
-    by : (b : Bool) → is_regular x ≡ b → first_same x (with_digest o 0 cs) ≡ case_place cs x
+    by : (b : Bool) → is_regular x ≡ b → first_same x (with_digest o 0 cs) ≡ case_number cs x
     by false e = absurd (true≢false (sym some ∙ ap is_some (is ∙ ap (λ r. if r then Some (digest x) else None) e)))
     by true e =
         ap (λ d. first_same x (with_digest d 0 cs)) (is ∙ ap (λ r. if r then Some (digest x) else None) e)
         ∙ regular_place cs x 0 none (empty (with_digest None 0 cs) (none_mapped (numbered (with_digest None 0 cs) 0) (sym found ∙ no_place p absent)))
-        ∙ from_zero (case_place cs x)
+        ∙ from_zero (case_number cs x)

@@ -23,7 +23,7 @@ use Rattle.std.specs.Option.{option_or}
 use Rattle.std.specs.Prelude.{option_map}
 use Rattle.rhai_grammar.specs.Switches.{with_value}
 use Rattle.rhai_trees.specs.CaseKeys.{case_count, has_digest, numbered, with_digest}
-use Rattle.rhai_trees.specs.Switches.{case_place}
+use Rattle.rhai_trees.specs.Switches.{case_number}
 use Rattle.rhai_trees.proofs.CaseKeyLemmas.{same_booleans}
 use Rattle.std.specs.Cmp.Lexicographic as texts
 use Rattle.std.specs.Hash as fed
@@ -205,9 +205,9 @@ from_zero (Some n) = ap Some (omega arith)
 -- ---- the cases with a digest
 
 -- What does not look at the arms of cases stays the same, where a value that is there is made to lead to one more.
-pub kept_by : {X : Type 0} (f : Cases → X) (step : Node → X → X) → ((y : Node) (more : List ℕ) (cs : Cases) → f (node.one_case y more cs) ≡ step y (f cs)) → (cs : Cases) (x : Node) (index n : ℕ) → case_place cs x ≡ Some n → f (with_value cs x index) ≡ f cs
+pub kept_by : {X : Type 0} (f : Cases → X) (step : Node → X → X) → ((y : Node) (more : List ℕ) (cs : Cases) → f (node.one_case y more cs) ≡ step y (f cs)) → (cs : Cases) (x : Node) (index n : ℕ) → case_number cs x ≡ Some n → f (with_value cs x index) ≡ f cs
 kept_by f step h node.no_cases x index n e = absurd cc
-kept_by f step h (node.one_case z more cs) x index n e = by (same_value z x) (case_place cs x) (λ m g. kept_by f step h cs x index m g) e
+kept_by f step h (node.one_case z more cs) x index n e = by (same_value z x) (case_number cs x) (λ m g. kept_by f step h cs x index m g) e
   where
     by : (b : Bool) (o : Option ℕ) → ((m : ℕ) → o ≡ Some m → f (with_value cs x index) ≡ f cs) → (if b then Some 0 else option_map (λ n. n + 1) o) ≡ Some n → f (if b then node.one_case z (more ++ index ∷ []) cs else node.one_case z more (with_value cs x index)) ≡ f (node.one_case z more cs)
     by true o g e = h z (more ++ index ∷ []) cs ∙ sym (h z more cs)
@@ -224,7 +224,7 @@ no_more = []
 abbrev pub placed : ℕ → Node → ℕ × Node
 placed k x = (k, x)
 
-pub digests_kept : (cs : Cases) (x : Node) (index n : ℕ) (o : Option ℕ) (k : ℕ) → case_place cs x ≡ Some n → with_digest o k (with_value cs x index) ≡ with_digest o k cs
+pub digests_kept : (cs : Cases) (x : Node) (index n : ℕ) (o : Option ℕ) (k : ℕ) → case_number cs x ≡ Some n → with_digest o k (with_value cs x index) ≡ with_digest o k cs
 digests_kept cs x index n o k e =
     let step : Node → (ℕ → List (ℕ × Node)) → ℕ → List (ℕ × Node) = λ z f j. if has_digest o z then placed j z ∷ f (j + 1) else f (j + 1) in
     ap (λ f. f k) (kept_by (λ ds j. with_digest o j ds) step (λ y more ds. refl) cs x index n e)

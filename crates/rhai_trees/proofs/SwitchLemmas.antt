@@ -29,7 +29,7 @@ use Rattle.rhai_grammar.specs.CaseValues.{IntegerRange, inclusion, is_empty_rang
 use Rattle.rhai_grammar.specs.Literals.{has_key, property_count}
 use Rattle.rhai_lower.specs.LatestNames.{latest_name}
 use Rattle.rhai_lower.proofs.NameLemmas.{latest-push}
-use Rattle.rhai_trees.specs.Switches.{case_place, collected_view, first_fault, found_property, is_full_range, items_in, names_backwards, properties_in, value_fault}
+use Rattle.rhai_trees.specs.Switches.{case_number, collected_view, first_fault, found_property, is_full_range, items_in, names_backwards, properties_in, value_fault}
 
 -- ---- ranges
 
@@ -199,8 +199,8 @@ back_inside name (p ∷ ps) i e = (back_some name (p ∷ ps) i p e).0
 
 -- what a list of these names answers
 pub asked_backwards : (name text : Text) (names : List (RcStr Global)) (ps : Properties) (o p : Option ℕ) → text ≡ name → o ≡ latest_name text (map rc_str_bytes names) → map rc_str_bytes names ≡ names_backwards ps → o ≡ p → latest_name name (names_backwards ps) ≡ p
-asked_backwards name text names ps o p same asked is e =
-    ap (latest_name name) (sym is) ∙ ap (λ t. latest_name t (map rc_str_bytes names)) (sym same) ∙ sym asked ∙ e
+asked_backwards name text names ps o p same next_item is e =
+    ap (latest_name name) (sym is) ∙ ap (λ t. latest_name t (map rc_str_bytes names)) (sym same) ∙ sym next_item ∙ e
 
 -- the properties from an index on, by the one at the index
 pub properties_by : (ps : List (Ident × Expr)) (x : Ident × Expr) (i : ℕ) (others : Properties) (all found : Bool) → x ≡ get_or ps i x → i < length ps → same_properties (property_views (drop i ps)) others ≡ all → (has_key (rc_str_bytes x.0.name) others && same_value (view x.1) (property_value (rc_str_bytes x.0.name) others)) ≡ found → all ≡ (found && same_properties (property_views (drop (i + 1) ps)) others)
@@ -245,9 +245,9 @@ arm_faults before ns rs ranged e f = fault_from_first (arm_count before.arms) be
 
 -- ---- one more arm
 
-pub place_none : (cs : Cases) (x : Node) (index : ℕ) → case_place cs x ≡ None → with_value cs x index ≡ node.with_case cs x (index ∷ [])
+pub place_none : (cs : Cases) (x : Node) (index : ℕ) → case_number cs x ≡ None → with_value cs x index ≡ node.with_case cs x (index ∷ [])
 place_none node.no_cases x index e = refl
-place_none (node.one_case y indices cs) x index e = none_by (same_value y x) y indices cs x index (case_place cs x) (place_none cs x index) e
+place_none (node.one_case y indices cs) x index e = none_by (same_value y x) y indices cs x index (case_number cs x) (place_none cs x index) e
   where
     none_by : (b : Bool) (y : Node) (indices : List ℕ) (cs : Cases) (x : Node) (index : ℕ) (o : Option ℕ) → (o ≡ None → with_value cs x index ≡ node.with_case cs x (index ∷ [])) → (if b then Some 0 else option_map (λ n. n + 1) o) ≡ None → (if b then node.one_case y (indices ++ (index ∷ [])) cs else node.one_case y indices (with_value cs x index)) ≡ node.one_case y indices (node.with_case cs x (index ∷ []))
     none_by true y indices cs x index o h e = absurd cc
@@ -271,9 +271,9 @@ set_by false b cs x index (suc n) c d (Some m) h e v i =
     let same : n ≡ m = omega (arith, ap (λ p. unwrap_or p 0) e) in
     ap (node.one_case (value_of b) (indices_of b)) (h n (ap Some same) v i)
 
-pub set_value : (cs : List SwitchCase) (x : Node) (index n : ℕ) (c d : SwitchCase) → Some n ≡ case_place (case_views cs) x → value_of c ≡ value_of (get_or cs n d) → indices_of c ≡ indices_of (get_or cs n d) ++ (index ∷ []) → case_views (slice_set cs n c) ≡ with_value (case_views cs) x index
+pub set_value : (cs : List SwitchCase) (x : Node) (index n : ℕ) (c d : SwitchCase) → Some n ≡ case_number (case_views cs) x → value_of c ≡ value_of (get_or cs n d) → indices_of c ≡ indices_of (get_or cs n d) ++ (index ∷ []) → case_views (slice_set cs n c) ≡ with_value (case_views cs) x index
 set_value [] x index n c d e v i = absurd cc
-set_value (b ∷ cs) x index n c d e v i = set_by (same_value (value_of b) x) b cs x index n c d (case_place (case_views cs) x) (λ m e v i. set_value cs x index m c d e v i) e v i
+set_value (b ∷ cs) x index n c d e v i = set_by (same_value (value_of b) x) b cs x index n c d (case_number (case_views cs) x) (λ m e v i. set_value cs x index m c d e v i) e v i
 
 pub listed_none : (o : Option IntegerRange) (index : ℕ) → is_full_range o ≡ false → listed_range o index ≡ []
 listed_none None index e = refl

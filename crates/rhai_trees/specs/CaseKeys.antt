@@ -15,11 +15,11 @@ use Rattle.rhai_grammar.specs.CaseValues.{IntegerRange, range_of, same_boolean}
 use Rattle.rhai_grammar.specs.Operators.{operator_call}
 use Rattle.rhai_grammar.specs.CaseValues.{same_value}
 use Rattle.rhai_trees.specs.Digests.{digest, is_regular}
-use Rattle.rhai_trees.specs.Switches.{case_place}
+use Rattle.rhai_trees.specs.Switches.{case_number}
 use Rattle.rhai_trees.specs.declared.case_index.CaseKey.{CaseKey}
 use Rattle.rhai_trees.specs.declared.case_index.CaseKey.TheVariants as key
-use Rattle.rhai_trees.specs.declared.case_search.CasePlace.{CasePlace}
-use Rattle.rhai_trees.specs.declared.case_search.CasePlace.TheVariants as found
+use Rattle.rhai_trees.specs.declared.case_search.CaseNumber.{CaseNumber}
+use Rattle.rhai_trees.specs.declared.case_search.CaseNumber.TheVariants as found
 
 -- a range, wherever it stands
 abbrev pub range_value : IntegerRange → Node
@@ -105,10 +105,10 @@ parts_key None n = key.Irregular n
 -- ---- places
 
 -- the place of the case that has a key
-abbrev pub place_of : Cases → CaseKey → Option ℕ
-place_of cases (key.Parts d n) = option_map (λ c. c.0) (numbered (with_digest (Some d) 0 cases) n)
-place_of cases (key.Irregular n) = option_map (λ c. c.0) (numbered (with_digest None 0 cases) n)
-place_of cases k = case_place cases (key_value k)
+abbrev pub numbered_case : Cases → CaseKey → Option ℕ
+numbered_case cases (key.Parts d n) = option_map (λ c. c.0) (numbered (with_digest (Some d) 0 cases) n)
+numbered_case cases (key.Irregular n) = option_map (λ c. c.0) (numbered (with_digest None 0 cases) n)
+numbered_case cases k = case_number cases (key_value k)
 
 -- the place of a key in a list of keys
 abbrev pub place_in : List CaseKey → CaseKey → Option ℕ
@@ -122,21 +122,21 @@ case_count (one_case x indices cases) = case_count cases + 1
 
 -- Each case has a key, which has its place among the keys.
 pub record Keyed (keys : List CaseKey) (cases : Cases) : Type 0 where
-  pub found : (q : CaseKey) → place_in keys q ≡ place_of cases q
+  pub found : (q : CaseKey) → place_in keys q ≡ numbered_case cases q
   pub count : length keys ≡ case_count cases
 
 -- A key of a value has the place of the first case that is equal to the value. Where there is none, it has the place of
 -- one more case with the value, and each other key has the place that it had.
 pub record IsKey (cases : Cases) (x : Node) (k : CaseKey) : Type 0 where
-  pub place : place_of cases k ≡ case_place cases x
-  pub more : case_place cases x ≡ None → (indices : List ℕ) (q : CaseKey)
-      → place_of (with_case cases x indices) q
-      ≡ option_or (place_of cases q) (if same_case q k then Some (case_count cases) else None)
+  pub place : numbered_case cases k ≡ case_number cases x
+  pub more : case_number cases x ≡ None → (indices : List ℕ) (q : CaseKey)
+      → numbered_case (with_case cases x indices) q
+      ≡ option_or (numbered_case cases q) (if same_case q k then Some (case_count cases) else None)
 
 -- A place is that of the first case that is equal to a value; a key is that of a value that is equal to no case.
-abbrev pub IsPlace : Cases → Node → CasePlace → Type 0
-IsPlace cases x (found.At p) = case_place cases x ≡ Some p
-IsPlace cases x (found.New k) = (case_place cases x ≡ None) × IsKey cases x k
+abbrev pub IsPlace : Cases → Node → CaseNumber → Type 0
+IsPlace cases x (found.At p) = case_number cases x ≡ Some p
+IsPlace cases x (found.New k) = (case_number cases x ≡ None) × IsKey cases x k
 
 -- `0..5` has the key of a range. `[]` has none of its own, and is the first case with its digest, 0.
 example : (plain_value (operator_call (Sign ExclusiveRange) (place 1 2) (integer (pos 0) (place 1 1))
@@ -144,5 +144,5 @@ example : (plain_value (operator_call (Sign ExclusiveRange) (place 1 2) (integer
     × (plain_value (array no_nodes (place 1 1)) ≡ None)
     × (same_case (key.Integer (pos 1)) (key.Integer (pos 1)) ≡ true)
     × (same_case (key.Integer (pos 1)) (key.Character 1) ≡ false)
-    × (place_of (one_case (array no_nodes (place 1 1)) [] no_cases) (key.Parts 0 0) ≡ Some 0)
+    × (numbered_case (one_case (array no_nodes (place 1 1)) [] no_cases) (key.Parts 0 0) ≡ Some 0)
 example = (refl, refl, refl, refl, refl)

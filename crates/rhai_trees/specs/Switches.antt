@@ -57,10 +57,10 @@ names_backwards no_properties = []
 names_backwards (one_property key at x ps) = names_backwards ps ++ key ∷ []
 
 -- where the value is among the cases that is equal to this one
-abbrev pub case_place : Cases → Node → Option ℕ
-case_place node.no_cases x = None
-case_place (node.one_case y indices cases) x =
-    if same_value y x then Some 0 else option_map (λ n. n + 1) (case_place cases x)
+abbrev pub case_number : Cases → Node → Option ℕ
+case_number node.no_cases x = None
+case_number (node.one_case y indices cases) x =
+    if same_value y x then Some 0 else option_map (λ n. n + 1) (case_number cases x)
 
 -- ---- tests of cases
 
@@ -85,7 +85,7 @@ first_fault ranged (one_node x xs) =
 abbrev example_one : (column : ℕ) → Node
 example_one column = node.integer (pos 1) (place 1 column)
 
-example : (case_place (node.one_case (example_one 1) [] node.no_cases) (example_one 9) ≡ Some 0)
+example : (case_number (node.one_case (example_one 1) [] node.no_cases) (example_one 9) ≡ Some 0)
     × (value_fault true (example_one 9) ≡ Some (refusal cause.WrongSwitchIntegerCase (place 1 9)))
     × (names_backwards (one_property (codes "a") (place 1 3) (example_one 6)
     (one_property (codes "b") (place 1 9) (example_one 12) no_properties)) ≡ codes "b" ∷ codes "a" ∷ [])

@@ -3,7 +3,7 @@
 ghost use Rattle.std.specs.Prelude.{◌≡◌, ◌<◌, IfOk, IfSome, None, length, option_map};
 ghost use Rattle.rhai_lower.specs.View.{case_views, view};
 ghost use Rattle.rhai_trees.specs.CaseKeys.{IsPlace, Keyed, digest_of, first_same, numbered, plain_value, with_digest};
-ghost use Rattle.rhai_trees.specs.Switches.{case_place};
+ghost use Rattle.rhai_trees.specs.Switches.{case_number};
 
 use crate::case_index::{CaseKey, parts_key, place_at};
 use crate::case_value::same_value;
@@ -14,7 +14,7 @@ use std::alloc::{AllocError, Global};
 
 /// Where a value is among the cases, or goes.
 #[derive(Drop)]
-pub enum CasePlace {
+pub enum CaseNumber {
     /// At this place is the first case that is equal to it.
     At(usize),
     /// No case is equal to it, and this is its key.
@@ -23,12 +23,12 @@ pub enum CasePlace {
 
 // Where the value is among the cases that is equal to this one, which takes time linear in their number. The error
 // is that there is no memory to find out.
-fn case_place(
+fn case_number(
     alloc: Global,
     cases: &[SwitchCase],
     value: &Expr,
 ) -> Result<Option<usize>, AllocError>
-    ensures { IfOk result (λ place. place ≡ case_place (case_views cases.now) (view value.now)) }
+    ensures { IfOk result (λ place. place ≡ case_number (case_views cases.now) (view value.now)) }
 {
     for (index, case) in cases.iter().enumerate() {
         let same = same_value(alloc, &case.value, value)?;
@@ -72,24 +72,24 @@ fn find_among(
     keys: &IndexSet<CaseKey>,
     digest: Option<u64>,
     value: &Expr,
-) -> Result<CasePlace, AllocError>
+) -> Result<CaseNumber, AllocError>
     requires indexed { Keyed keys.now.keys (case_views cases.now) }
     requires parts { plain_value (view value.now) ≡ None }
     requires digest { digest ≡ digest_of (view value.now) }
     requires enough { first_same (view value.now) (with_digest digest 0 (case_views cases.now))
-        ≡ case_place (case_views cases.now) (view value.now) }
+        ≡ case_number (case_views cases.now) (view value.now) }
     ensures { IfOk result (IsPlace (case_views cases.now) (view value.now)) }
 {
     for number in 0..cases.len() {
         let Some(place) = numbered_place(cases, keys, digest, number) else {
-            return Ok(CasePlace::New(parts_key(digest, number)));
+            return Ok(CaseNumber::New(parts_key(digest, number)));
         };
         let same = same_value(alloc, &cases[place].value, value)?;
         if same {
-            return Ok(CasePlace::At(place));
+            return Ok(CaseNumber::At(place));
         }
     }
-    Ok(CasePlace::New(parts_key(digest, cases.len())))
+    Ok(CaseNumber::New(parts_key(digest, cases.len())))
 }
 
 // Looks for a value among all cases.
@@ -99,14 +99,14 @@ fn find_among_all(
     keys: &IndexSet<CaseKey>,
     digest: Option<u64>,
     value: &Expr,
-) -> Result<CasePlace, AllocError>
+) -> Result<CaseNumber, AllocError>
     requires indexed { Keyed keys.now.keys (case_views cases.now) }
     requires parts { plain_value (view value.now) ≡ None }
     requires digest { digest ≡ digest_of (view value.now) }
     ensures { IfOk result (IsPlace (case_views cases.now) (view value.now)) }
 {
-    if let Some(place) = case_place(alloc, cases, value)? {
-        return Ok(CasePlace::At(place));
+    if let Some(place) = case_number(alloc, cases, value)? {
+        return Ok(CaseNumber::At(place));
     }
     find_among(alloc, cases, keys, digest, value)
 }
@@ -119,7 +119,7 @@ pub fn find_parts(
     cases: &[SwitchCase],
     keys: &IndexSet<CaseKey>,
     value: &Expr,
-) -> Result<CasePlace, AllocError>
+) -> Result<CaseNumber, AllocError>
     requires indexed { Keyed keys.now.keys (case_views cases.now) }
     requires parts { plain_value (view value.now) ≡ None }
     ensures { IfOk result (IsPlace (case_views cases.now) (view value.now)) }

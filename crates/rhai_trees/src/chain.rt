@@ -111,8 +111,8 @@ impl Chain {
         self.nest_links(alloc)
     }
 
-    // The tree of a chain that has links. These are few, and a function clears all the places that it has when it
-    // begins; so they are apart.
+    // The tree of a chain that has links. These are few, and a function clears all its locals when it begins;
+    // so they are apart.
     #[inline(never)]
     #[tactic(auto, using(crate::proofs::ChainLemmas::nests))]
     fn nest_links(self, alloc: Global) -> Result<Expr, AllocError>

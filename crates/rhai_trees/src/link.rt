@@ -42,8 +42,8 @@ pub struct Chain {
 }
 
 impl Drop for Chain {
-    // As derived; but a derived drop is expanded wherever a chain may be dropped, and a function clears all the places
-    // that it has when it begins.
+    // As derived; but a derived drop is expanded wherever a chain may be dropped, and a function clears all its locals
+    // when it begins.
     #[inline(never)]
     fn drop(self) {
         let Chain { root: _, links: _ } = self;

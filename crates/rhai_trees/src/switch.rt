@@ -10,13 +10,13 @@ ghost use Rattle.rhai_grammar.specs.Switches.{nothing_collected, switch_tree, wi
 ghost use Rattle.rhai_grammar.specs.Switches.{with_cases, with_default_collected, with_value};
 ghost use Rattle.rhai_trees.specs.Arms.{Indexed, arms_view};
 ghost use Rattle.rhai_trees.specs.CaseKeys.{IsKey, Keyed, plain_value};
-ghost use Rattle.rhai_trees.specs.Switches.{case_place, collected_view, first_fault, is_full_range};
+ghost use Rattle.rhai_trees.specs.Switches.{case_number, collected_view, first_fault, is_full_range};
 ghost use Rattle.rhai_trees.specs.Switches.{value_fault, with_action};
 
 use crate::arms::Arms;
 use crate::capacity::grow_arms;
 use crate::case_index::{CaseKey, add_key, key_of};
-use crate::case_search::{CasePlace, find_parts};
+use crate::case_search::{CaseNumber, find_parts};
 use crate::case_value::range_of;
 use crate::literal::is_literal_value;
 use crate::statement::{ends_itself, is_empty};
@@ -147,7 +147,7 @@ fn push_index(
     value: &Expr,
     index: usize,
 ) -> Result<(), AllocError>
-    requires { case_place (case_views cases.old.items) (view value.now) ≡ Some place }
+    requires { case_number (case_views cases.old.items) (view value.now) ≡ Some place }
     ensures { OnOk result
         (case_views cases.new.items ≡ with_value (case_views cases.old.items) (view value.now) index) }
 {
@@ -164,7 +164,7 @@ fn push_new_value(
     value: Expr,
     index: usize,
 ) -> Result<(), AllocError>
-    requires { case_place (case_views cases.old.items) (view value) ≡ None }
+    requires { case_number (case_views cases.old.items) (view value) ≡ None }
     ensures { OnOk result
         (case_views cases.new.items ≡ with_value (case_views cases.old.items) (view value) index) }
 {
@@ -213,8 +213,8 @@ fn push_parts(
     ensures indexed { OnOk result (Keyed keys.new.keys (case_views cases.new.items)) }
 {
     match find_parts(alloc, cases, keys, &value)? {
-        CasePlace::At(place) => push_index(cases, place, &value, index),
-        CasePlace::New(key) => push_keyed(alloc, cases, keys, value, key, index),
+        CaseNumber::At(place) => push_index(cases, place, &value, index),
+        CaseNumber::New(key) => push_keyed(alloc, cases, keys, value, key, index),
     }
 }
 

@@ -27,7 +27,7 @@ impl<'p> Frame<'p> {
             || (is_function (library_of library.now) name.now || is_declared name.now self.now.known.variables))) }
     {
         !strict
-            || self.place_of(name).is_some()
+            || self.slot_number(name).is_some()
             || library.is_function(name)
             || self.known.declares(name)
     }
@@ -38,7 +38,7 @@ impl<'p> Frame<'p> {
         ensures { result ≡ (closure && not (is_some (number name.now self.now.live.slots)
             || is_function (library_of library.now) name.now)) }
     {
-        closure && !(self.place_of(name).is_some() || library.is_function(name))
+        closure && !(self.slot_number(name).is_some() || library.is_function(name))
     }
 
     /// Whether a path may begin with `name`: under strict variables, which `strict` says, it is the name of an import,
@@ -69,7 +69,7 @@ impl<'p> Frame<'p> {
         if shadowing {
             return Ok(());
         }
-        match self.place_of(name) {
+        match self.slot_number(name) {
             None => Ok(()),
             Some(_) => Err(ParseError(ParseErrorType::VariableExists(name.clone()?), pos)),
         }

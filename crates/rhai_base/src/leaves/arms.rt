@@ -5,11 +5,11 @@ ghost use Rattle.rhai_lower.specs.Lexemes.{lexeme};
 ghost use Rattle.rhai_grammar.specs.Beginnings.{missing};
 ghost use Rattle.rhai_grammar.specs.Causes.{MemoryIsNowhere, Says, UnexpectedEOF, WrongSwitchCaseCondition};
 ghost use Rattle.rhai_grammar.specs.Causes.{as_literal, is_for_memory, is_memory_kind, refusal, refusal_of};
-ghost use Rattle.rhai_grammar.specs.Cursors.{asked, cursor_of, left, looking};
+ghost use Rattle.rhai_grammar.specs.Cursors.{next_item, cursor_of, left, after_peek};
 ghost use Rattle.rhai_grammar.specs.Delivered.{is_end, is_memory};
 ghost use Rattle.rhai_grammar.specs.Demands.{Fine, Wrong};
 ghost use Rattle.rhai_grammar.specs.DueTokens.{is_due};
-ghost use Rattle.rhai_grammar.specs.Switches.{action_due, arm_place};
+ghost use Rattle.rhai_grammar.specs.Switches.{action_due, arm_role};
 ghost use Rattle.rhai_grammar.specs.declared.due.DueToken.TheVariants.{If};
 ghost use Rattle.rhai_reading.specs.Reading.{ArmEnd, DefaultEnd};
 ghost use Rattle.rhai_base.specs.Arms.{BeginsArm, is_case, is_nothing};
@@ -21,7 +21,7 @@ use crate::leaves::lists::{after_part, not_after};
 use crate::leaves::refusals::missing;
 use crate::leaves::tokens::is_end;
 use rhai_grammar::{
-    AfterPart, ArmPlace, CommaList, DueToken, ParseError, ParseErrorType, ParseResult,
+    AfterPart, ArmRole, CommaList, DueToken, ParseError, ParseErrorType, ParseResult,
 };
 use rhai_lower::{Position, Token, TokenStream};
 use std::alloc::Global;
@@ -39,15 +39,15 @@ pub enum NextArm {
 }
 
 /// What a token is where an arm of a `switch` may begin.
-pub fn arm_place(token: &Token) -> ArmPlace
-    ensures place { result ≡ arm_place (lexeme token.now) }
+pub fn arm_role(token: &Token) -> ArmRole
+    ensures place { result ≡ arm_role (lexeme token.now) }
     ensures more { is_nothing result ≡ false → is_end (lexeme token.now) ≡ false }
 {
     match token {
-        Token::Underscore => ArmPlace::Default,
-        Token::RightBrace => ArmPlace::Close,
-        Token::EOF => ArmPlace::Nothing,
-        _ => ArmPlace::Case,
+        Token::Underscore => ArmRole::Default,
+        Token::RightBrace => ArmRole::Close,
+        Token::EOF => ArmRole::Nothing,
+        _ => ArmRole::Case,
     }
 }
 
@@ -64,24 +64,24 @@ fn unclosed(alloc: Global, token: &Token, pos: Position) -> ParseError
 pub fn next_arm(alloc: Global, input: &mut TokenStream) -> ParseResult<NextArm>
     ensures begins { BeginsArm (cursor_of input.old) result (cursor_of input.new) }
     ensures nowhere { IfErr result MemoryIsNowhere }
-    ensures more { OnOk result (is_end (asked (cursor_of input.old)).lexeme ≡ false) }
+    ensures more { OnOk result (is_end (next_item (cursor_of input.old)).lexeme ≡ false) }
     ensures shorter { left (cursor_of input.new).tokens ≤ left (cursor_of input.old).tokens }
     ensures shrinks { IfOk result (λ next. is_case next ≡ false
         → left (cursor_of input.new).tokens + 1 ≤ left (cursor_of input.old).tokens) }
 {
     let (token, pos) = peek(input)?;
     let pos = *pos;
-    match arm_place(token) {
-        ArmPlace::Case => Ok(NextArm::Case),
-        ArmPlace::Default => {
+    match arm_role(token) {
+        ArmRole::Case => Ok(NextArm::Case),
+        ArmRole::Default => {
             skip(input);
             Ok(NextArm::Default(pos))
         }
-        ArmPlace::Close => {
+        ArmRole::Close => {
             skip(input);
             Ok(NextArm::End)
         }
-        ArmPlace::Nothing => Err(unclosed(alloc, token, pos)),
+        ArmRole::Nothing => Err(unclosed(alloc, token, pos)),
     }
 }
 
@@ -89,14 +89,14 @@ pub fn next_arm(alloc: Global, input: &mut TokenStream) -> ParseResult<NextArm>
 ///
 /// The error is `WrongSwitchCaseCondition` at the `if`, or `OutOfMemory`.
 pub fn default_unguarded(input: &mut TokenStream) -> ParseResult<()>
-    ensures passes { OnOk result ((is_due If (asked (cursor_of input.old)).lexeme ≡ false)
-        × (is_memory (asked (cursor_of input.old)).lexeme ≡ false)) }
+    ensures passes { OnOk result ((is_due If (next_item (cursor_of input.old)).lexeme ≡ false)
+        × (is_memory (next_item (cursor_of input.old)).lexeme ≡ false)) }
     ensures refused { IfErr result (λ e. is_for_memory e ≡ false
-        → (is_due If (asked (cursor_of input.old)).lexeme ≡ true)
-        × (is_memory (asked (cursor_of input.old)).lexeme ≡ false)
-        × (refusal_of e ≡ refusal WrongSwitchCaseCondition (asked (cursor_of input.old)).at)) }
+        → (is_due If (next_item (cursor_of input.old)).lexeme ≡ true)
+        × (is_memory (next_item (cursor_of input.old)).lexeme ≡ false)
+        × (refusal_of e ≡ refusal WrongSwitchCaseCondition (next_item (cursor_of input.old)).at)) }
     ensures nowhere { IfErr result MemoryIsNowhere }
-    ensures after { cursor_of input.new ≡ looking (cursor_of input.old) }
+    ensures after { cursor_of input.new ≡ after_peek (cursor_of input.old) }
 {
     let (token, pos) = peek(input)?;
     if is_due(DueToken::If, token) {
@@ -109,16 +109,16 @@ pub fn default_unguarded(input: &mut TokenStream) -> ParseResult<()>
 ///
 /// At the end mark the error is `UnexpectedEOF`; if memory runs out, it is `OutOfMemory`.
 pub fn action_due(input: &mut TokenStream) -> ParseResult<()>
-    ensures passes { OnOk result ((action_due (asked (cursor_of input.old)).lexeme ≡ Fine)
-        × (is_end (asked (cursor_of input.old)).lexeme ≡ false)
-        × (is_memory (asked (cursor_of input.old)).lexeme ≡ false)) }
+    ensures passes { OnOk result ((action_due (next_item (cursor_of input.old)).lexeme ≡ Fine)
+        × (is_end (next_item (cursor_of input.old)).lexeme ≡ false)
+        × (is_memory (next_item (cursor_of input.old)).lexeme ≡ false)) }
     ensures refused { IfErr result (λ e. is_for_memory e ≡ false
-        → (action_due (asked (cursor_of input.old)).lexeme ≡ Wrong UnexpectedEOF)
-        × (is_end (asked (cursor_of input.old)).lexeme ≡ true)
-        × (is_memory (asked (cursor_of input.old)).lexeme ≡ false)
-        × (refusal_of e ≡ refusal UnexpectedEOF (asked (cursor_of input.old)).at)) }
+        → (action_due (next_item (cursor_of input.old)).lexeme ≡ Wrong UnexpectedEOF)
+        × (is_end (next_item (cursor_of input.old)).lexeme ≡ true)
+        × (is_memory (next_item (cursor_of input.old)).lexeme ≡ false)
+        × (refusal_of e ≡ refusal UnexpectedEOF (next_item (cursor_of input.old)).at)) }
     ensures nowhere { IfErr result MemoryIsNowhere }
-    ensures after { cursor_of input.new ≡ looking (cursor_of input.old) }
+    ensures after { cursor_of input.new ≡ after_peek (cursor_of input.old) }
 {
     let (token, pos) = peek(input)?;
     if is_end(token) {
@@ -161,13 +161,13 @@ pub fn default_ends(alloc: Global, input: &mut TokenStream, default: Position) -
     ensures shrinks { OnOk result (left (cursor_of input.new).tokens + 1 ≤ left (cursor_of input.old).tokens) }
 {
     let (token, pos) = peek(input)?;
-    match arm_place(token) {
-        ArmPlace::Close => {
+    match arm_role(token) {
+        ArmRole::Close => {
             skip(input);
             Ok(())
         }
-        ArmPlace::Nothing => Err(unclosed(alloc, token, *pos)),
-        ArmPlace::Case | ArmPlace::Default => {
+        ArmRole::Nothing => Err(unclosed(alloc, token, *pos)),
+        ArmRole::Case | ArmRole::Default => {
             Err(ParseError(ParseErrorType::WrongSwitchDefaultCase, default))
         }
     }

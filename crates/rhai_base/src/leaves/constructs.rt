@@ -7,7 +7,7 @@ ghost use Rattle.rhai_lower.specs.Texts.{same_text};
 ghost use Rattle.rhai_grammar.specs.Causes.{DuplicatedVariable, MemoryIsNowhere, is_for_memory, refusal, refusal_of};
 ghost use Rattle.rhai_grammar.specs.Constructs.{do_end, guard_expected, may_stand, no_assignment};
 ghost use Rattle.rhai_grammar.specs.Contexts.{Context, allows_looping};
-ghost use Rattle.rhai_grammar.specs.Cursors.{asked, cursor_of, left, looking};
+ghost use Rattle.rhai_grammar.specs.Cursors.{next_item, cursor_of, left, after_peek};
 ghost use Rattle.rhai_grammar.specs.Delivered.{is_end, is_memory};
 ghost use Rattle.rhai_grammar.specs.DueTokens.{is_due};
 ghost use Rattle.rhai_grammar.specs.declared.due.DueToken.TheVariants.{Equals, LeftBrace};
@@ -38,14 +38,14 @@ pub fn may_stand(looping: bool, construct: Construct) -> bool
 ///
 /// The error is `ExprExpected` at the `{`, or `OutOfMemory`.
 pub fn guard_begins(alloc: Global, input: &mut TokenStream) -> ParseResult<()>
-    ensures passes { OnOk result ((is_due LeftBrace (asked (cursor_of input.old)).lexeme ≡ false)
-        × (is_memory (asked (cursor_of input.old)).lexeme ≡ false)) }
+    ensures passes { OnOk result ((is_due LeftBrace (next_item (cursor_of input.old)).lexeme ≡ false)
+        × (is_memory (next_item (cursor_of input.old)).lexeme ≡ false)) }
     ensures refused { IfErr result (λ e. is_for_memory e ≡ false
-        → (is_due LeftBrace (asked (cursor_of input.old)).lexeme ≡ true)
-        × (is_memory (asked (cursor_of input.old)).lexeme ≡ false)
-        × (refusal_of e ≡ refusal guard_expected (asked (cursor_of input.old)).at)) }
+        → (is_due LeftBrace (next_item (cursor_of input.old)).lexeme ≡ true)
+        × (is_memory (next_item (cursor_of input.old)).lexeme ≡ false)
+        × (refusal_of e ≡ refusal guard_expected (next_item (cursor_of input.old)).at)) }
     ensures nowhere { IfErr result MemoryIsNowhere }
-    ensures after { cursor_of input.new ≡ looking (cursor_of input.old) }
+    ensures after { cursor_of input.new ≡ after_peek (cursor_of input.old) }
 {
     let (token, pos) = peek(input)?;
     if is_due(DueToken::LeftBrace, token) {
@@ -59,14 +59,14 @@ pub fn guard_begins(alloc: Global, input: &mut TokenStream) -> ParseResult<()>
 ///
 /// The error is `ImproperSymbol` at the `=`, or `OutOfMemory`.
 pub fn guard_ends(alloc: Global, input: &mut TokenStream) -> ParseResult<()>
-    ensures passes { OnOk result ((is_due Equals (asked (cursor_of input.old)).lexeme ≡ false)
-        × (is_memory (asked (cursor_of input.old)).lexeme ≡ false)) }
+    ensures passes { OnOk result ((is_due Equals (next_item (cursor_of input.old)).lexeme ≡ false)
+        × (is_memory (next_item (cursor_of input.old)).lexeme ≡ false)) }
     ensures refused { IfErr result (λ e. is_for_memory e ≡ false
-        → (is_due Equals (asked (cursor_of input.old)).lexeme ≡ true)
-        × (is_memory (asked (cursor_of input.old)).lexeme ≡ false)
-        × (refusal_of e ≡ refusal no_assignment (asked (cursor_of input.old)).at)) }
+        → (is_due Equals (next_item (cursor_of input.old)).lexeme ≡ true)
+        × (is_memory (next_item (cursor_of input.old)).lexeme ≡ false)
+        × (refusal_of e ≡ refusal no_assignment (next_item (cursor_of input.old)).at)) }
     ensures nowhere { IfErr result MemoryIsNowhere }
-    ensures after { cursor_of input.new ≡ looking (cursor_of input.old) }
+    ensures after { cursor_of input.new ≡ after_peek (cursor_of input.old) }
 {
     let (token, pos) = peek(input)?;
     if is_due(DueToken::Equals, token) {

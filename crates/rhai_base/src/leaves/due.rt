@@ -7,7 +7,7 @@ ghost use Rattle.rhai_lower.specs.Positions.{nowhere};
 ghost use Rattle.rhai_grammar.specs.Beginnings.{calling, is_list, missing, unexpected};
 ghost use Rattle.rhai_grammar.specs.Causes.{BadInput, MemoryIsNowhere, input_cause, is_for_memory, refusal};
 ghost use Rattle.rhai_grammar.specs.Causes.{refusal_of};
-ghost use Rattle.rhai_grammar.specs.Cursors.{asked, cursor_of, left, looking};
+ghost use Rattle.rhai_grammar.specs.Cursors.{next_item, cursor_of, left, after_peek};
 ghost use Rattle.rhai_grammar.specs.Delivered.{is_end, is_memory};
 ghost use Rattle.rhai_grammar.specs.DueTokens.{is_due, not_due, text_of_due};
 ghost use Rattle.rhai_grammar.specs.Verdicts.{bang_refusal};
@@ -118,7 +118,7 @@ pub fn match_token(
 /// the tokenizer ran out of memory at that token, which stays too.
 pub fn pass_token(input: &mut TokenStream, due: DueToken) -> Result<bool, AllocError>
     ensures tries { Tries due (cursor_of input.old) result (cursor_of input.new) }
-    ensures readable { OnOk result (is_memory (asked (cursor_of input.old)).lexeme ≡ false) }
+    ensures readable { OnOk result (is_memory (next_item (cursor_of input.old)).lexeme ≡ false) }
     ensures shorter { left (cursor_of input.new).tokens ≤ left (cursor_of input.old).tokens }
     ensures shrinks { IfOk result (λ passed. IsTrue passed
         → left (cursor_of input.new).tokens + 1 ≤ left (cursor_of input.old).tokens) }
@@ -152,16 +152,16 @@ fn arguments_at(alloc: Global, token: &Token, pos: Position) -> ParseResult<Call
 
 /// Looks at the arguments that are due after the `!` of a call; their token stays.
 pub fn arguments_due(alloc: Global, input: &mut TokenStream) -> ParseResult<Calling>
-    ensures listed { IfOk result (λ c. (c ≡ calling (asked (cursor_of input.old)).lexeme) × (is_list c ≡ true)) }
-    ensures more { OnOk result (is_end (asked (cursor_of input.old)).lexeme ≡ false) }
+    ensures listed { IfOk result (λ c. (c ≡ calling (next_item (cursor_of input.old)).lexeme) × (is_list c ≡ true)) }
+    ensures more { OnOk result (is_end (next_item (cursor_of input.old)).lexeme ≡ false) }
     ensures refused { IfErr result (λ e. is_for_memory e ≡ false
-        → (is_list (calling (asked (cursor_of input.old)).lexeme) ≡ false)
-        × (is_memory (asked (cursor_of input.old)).lexeme ≡ false)
-        × (refusal_of e ≡ refusal (missing (codes "(") (asked (cursor_of input.old)).lexeme)
-        (asked (cursor_of input.old)).at)) }
+        → (is_list (calling (next_item (cursor_of input.old)).lexeme) ≡ false)
+        × (is_memory (next_item (cursor_of input.old)).lexeme ≡ false)
+        × (refusal_of e ≡ refusal (missing (codes "(") (next_item (cursor_of input.old)).lexeme)
+        (next_item (cursor_of input.old)).at)) }
     ensures nowhere { IfErr result MemoryIsNowhere }
-    ensures after { cursor_of input.new ≡ looking (cursor_of input.old) }
-    ensures readable { OnOk result (is_memory (asked (cursor_of input.old)).lexeme ≡ false) }
+    ensures after { cursor_of input.new ≡ after_peek (cursor_of input.old) }
+    ensures readable { OnOk result (is_memory (next_item (cursor_of input.old)).lexeme ≡ false) }
 {
     let (token, pos) = peek(input)?;
     arguments_at(alloc, token, *pos)
@@ -169,9 +169,9 @@ pub fn arguments_due(alloc: Global, input: &mut TokenStream) -> ParseResult<Call
 
 // Why the `!` of a call is refused whose name has a path; the next token, which stays, is behind it.
 fn bang_input(alloc: Global, input: &mut TokenStream) -> Result<InputError, AllocError>
-    ensures input { IfOk result (λ e. (is_memory (asked (cursor_of input.old)).lexeme ≡ false)
-        × (BadInput (input_cause e) ≡ (bang_refusal nowhere (asked (cursor_of input.old)).lexeme).cause)) }
-    ensures after { cursor_of input.new ≡ looking (cursor_of input.old) }
+    ensures input { IfOk result (λ e. (is_memory (next_item (cursor_of input.old)).lexeme ≡ false)
+        × (BadInput (input_cause e) ≡ (bang_refusal nowhere (next_item (cursor_of input.old)).lexeme).cause)) }
+    ensures after { cursor_of input.new ≡ after_peek (cursor_of input.old) }
 {
     let (token, _) = peek(input)?;
     let bang = RcStr::from_str(alloc, "!")?;
@@ -188,10 +188,10 @@ fn bang_input(alloc: Global, input: &mut TokenStream) -> Result<InputError, Allo
 /// `ImproperSymbol` before any other token, which stays; if memory runs out, `OutOfMemory`.
 pub fn no_bang(alloc: Global, input: &mut TokenStream, bang: Position) -> ParseError
     ensures refused { is_for_memory result ≡ false
-        → (is_memory (asked (cursor_of input.old)).lexeme ≡ false)
-        × (refusal_of result ≡ bang_refusal bang (asked (cursor_of input.old)).lexeme) }
+        → (is_memory (next_item (cursor_of input.old)).lexeme ≡ false)
+        × (refusal_of result ≡ bang_refusal bang (next_item (cursor_of input.old)).lexeme) }
     ensures nowhere { MemoryIsNowhere result }
-    ensures after { cursor_of input.new ≡ looking (cursor_of input.old) }
+    ensures after { cursor_of input.new ≡ after_peek (cursor_of input.old) }
 {
     match bang_input(alloc, input) {
         Ok(input) => ParseError(ParseErrorType::BadInput(input), bang),
@@ -202,15 +202,15 @@ pub fn no_bang(alloc: Global, input: &mut TokenStream, bang: Position) -> ParseE
 /// Looks at the end mark that is due after a whole expression; it stays. Any other token there is refused as
 /// unexpected.
 pub fn end_due(alloc: Global, input: &mut TokenStream) -> ParseResult<()>
-    ensures ended { OnOk result ((is_end (asked (cursor_of input.old)).lexeme ≡ true)
-        × (is_memory (asked (cursor_of input.old)).lexeme ≡ false)) }
+    ensures ended { OnOk result ((is_end (next_item (cursor_of input.old)).lexeme ≡ true)
+        × (is_memory (next_item (cursor_of input.old)).lexeme ≡ false)) }
     ensures refused { IfErr result (λ e. is_for_memory e ≡ false
-        → (is_end (asked (cursor_of input.old)).lexeme ≡ false)
-        × (is_memory (asked (cursor_of input.old)).lexeme ≡ false)
-        × (refusal_of e ≡ refusal (unexpected (asked (cursor_of input.old)).lexeme)
-        (asked (cursor_of input.old)).at)) }
+        → (is_end (next_item (cursor_of input.old)).lexeme ≡ false)
+        × (is_memory (next_item (cursor_of input.old)).lexeme ≡ false)
+        × (refusal_of e ≡ refusal (unexpected (next_item (cursor_of input.old)).lexeme)
+        (next_item (cursor_of input.old)).at)) }
     ensures nowhere { IfErr result MemoryIsNowhere }
-    ensures after { cursor_of input.new ≡ looking (cursor_of input.old) }
+    ensures after { cursor_of input.new ≡ after_peek (cursor_of input.old) }
 {
     let (token, pos) = peek(input)?;
     if is_end(token) {

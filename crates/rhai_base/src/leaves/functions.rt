@@ -7,9 +7,9 @@ ghost use Rattle.rhai_grammar.specs.Causes.{FnMissingName, MemoryIsNowhere, caus
 ghost use Rattle.rhai_grammar.specs.Causes.{refusal_of};
 ghost use Rattle.rhai_grammar.specs.Cursors.{cursor_of, left};
 ghost use Rattle.rhai_grammar.specs.Functions.{is_keyword, names_function, no_body, no_function_name, no_parameter};
-ghost use Rattle.rhai_grammar.specs.Functions.{is_reserved_token, no_parameters, parameter_place, type_named};
+ghost use Rattle.rhai_grammar.specs.Functions.{is_reserved_token, no_parameters, parameter_role, type_named};
 ghost use Rattle.rhai_grammar.specs.Delivered.{is_end};
-ghost use Rattle.rhai_grammar.specs.declared.role.ItemPlace.TheVariants.{Nothing};
+ghost use Rattle.rhai_grammar.specs.declared.role.ItemRole.TheVariants.{Nothing};
 ghost use Rattle.rhai_reading.specs.Reading.{FunctionHead};
 ghost use Rattle.rhai_base.specs.Leaves.{GivesAt, head_view};
 ghost use Rattle.rhai_base.specs.Functions.{FunctionNames, OpensBody, OpensParameters, TakesParameter, Types};
@@ -20,7 +20,7 @@ use crate::leaves::lists::{closes_list, closing_text};
 use crate::leaves::refusals::missing_token;
 use crate::leaves::tokens::what_calls;
 use rhai_grammar::{
-    Calling, CommaList, DueToken, InputError, ItemPlace, ParseError, ParseErrorType, ParseResult,
+    Calling, CommaList, DueToken, InputError, ItemRole, ParseError, ParseErrorType, ParseResult,
 };
 use rhai_lower::{Position, Token, TokenStream, is_valid_function_name};
 use std::alloc::{AllocError, Global};
@@ -197,14 +197,14 @@ fn no_parameter(alloc: Global, list: CommaList, token: &Token) -> Result<ParseEr
 }
 
 // What a token is where a parameter may be.
-fn parameter_place(list: CommaList, token: &Token) -> ItemPlace
-    ensures place { result ≡ parameter_place list (lexeme token.now) }
+fn parameter_role(list: CommaList, token: &Token) -> ItemRole
+    ensures place { result ≡ parameter_role list (lexeme token.now) }
     ensures more { result ≡ Nothing ⊎ (is_end (lexeme token.now) ≡ false) }
 {
     match token {
-        Token::Identifier(_) => ItemPlace::Item,
-        _ if closes_list(list, token) => ItemPlace::End,
-        _ => ItemPlace::Nothing,
+        Token::Identifier(_) => ItemRole::Item,
+        _ if closes_list(list, token) => ItemRole::End,
+        _ => ItemRole::Nothing,
     }
 }
 
@@ -225,10 +225,10 @@ pub fn take_parameter(
 {
     let (token, pos) = peek(input)?;
     let pos = *pos;
-    let parameter = match parameter_place(list, token) {
-        ItemPlace::End => None,
-        ItemPlace::Item => Some((token.text(alloc)?, pos)),
-        ItemPlace::Nothing => return Err(ParseError(no_parameter(alloc, list, token)?, pos)),
+    let parameter = match parameter_role(list, token) {
+        ItemRole::End => None,
+        ItemRole::Item => Some((token.text(alloc)?, pos)),
+        ItemRole::Nothing => return Err(ParseError(no_parameter(alloc, list, token)?, pos)),
     };
     skip(input);
     Ok(parameter)

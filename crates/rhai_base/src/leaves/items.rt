@@ -4,13 +4,13 @@ ghost use Rattle.std.specs.Prelude.{◌≡◌, IfErr, OnOk, false, true};
 ghost use Rattle.rhai_lower.specs.Lexemes.{lexeme};
 ghost use Rattle.rhai_grammar.specs.Causes.{MemoryIsNowhere, is_for_memory, refusal, refusal_of};
 ghost use Rattle.rhai_grammar.specs.Contexts.{full};
-ghost use Rattle.rhai_grammar.specs.Cursors.{asked, cursor_of, looking};
+ghost use Rattle.rhai_grammar.specs.Cursors.{next_item, cursor_of, after_peek};
 ghost use Rattle.rhai_grammar.specs.Delivered.{is_memory};
-ghost use Rattle.rhai_grammar.specs.Literals.{item_place, too_many_fields};
+ghost use Rattle.rhai_grammar.specs.Literals.{item_role, too_many_fields};
 
 use crate::cursor::peek;
 use crate::leaves::refusals::too_large;
-use rhai_grammar::{ItemPlace, ParseResult};
+use rhai_grammar::{ItemRole, ParseResult};
 use rhai_lower::{Token, TokenStream};
 use std::alloc::Global;
 
@@ -22,14 +22,14 @@ fn is_full(limit: usize, count: usize) -> bool
 }
 
 /// What a token is where an item of an array may begin, after `count` others.
-pub fn item_place(token: &Token, limit: usize, count: usize) -> ItemPlace
-    ensures place { result ≡ item_place limit count (lexeme token.now) }
+pub fn item_role(token: &Token, limit: usize, count: usize) -> ItemRole
+    ensures place { result ≡ item_role limit count (lexeme token.now) }
 {
     match token {
-        Token::RightBracket => ItemPlace::End,
-        Token::EOF => ItemPlace::Nothing,
-        _ if is_full(limit, count) => ItemPlace::Nothing,
-        _ => ItemPlace::Item,
+        Token::RightBracket => ItemRole::End,
+        Token::EOF => ItemRole::Nothing,
+        _ if is_full(limit, count) => ItemRole::Nothing,
+        _ => ItemRole::Item,
     }
 }
 
@@ -40,12 +40,13 @@ pub fn room_for_value(
     limit: usize,
     count: usize,
 ) -> ParseResult<()>
-    ensures room { OnOk result ((full limit count ≡ false) × (is_memory (asked (cursor_of input.old)).lexeme ≡ false)) }
+    ensures room { OnOk result ((full limit count ≡ false)
+        × (is_memory (next_item (cursor_of input.old)).lexeme ≡ false)) }
     ensures refused { IfErr result (λ e. is_for_memory e ≡ false
-        → (full limit count ≡ true) × (is_memory (asked (cursor_of input.old)).lexeme ≡ false)
-        × (refusal_of e ≡ refusal (too_many_fields limit) (asked (cursor_of input.old)).at)) }
+        → (full limit count ≡ true) × (is_memory (next_item (cursor_of input.old)).lexeme ≡ false)
+        × (refusal_of e ≡ refusal (too_many_fields limit) (next_item (cursor_of input.old)).at)) }
     ensures nowhere { IfErr result MemoryIsNowhere }
-    ensures after { cursor_of input.new ≡ looking (cursor_of input.old) }
+    ensures after { cursor_of input.new ≡ after_peek (cursor_of input.old) }
 {
     let (_, pos) = peek(input)?;
     if is_full(limit, count) {

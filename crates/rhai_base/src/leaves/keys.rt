@@ -5,7 +5,7 @@ ghost use Rattle.rhai_lower.specs.Lexemes.{lexeme};
 ghost use Rattle.rhai_grammar.specs.Causes.{MemoryIsNowhere, cause_of, is_for_memory};
 ghost use Rattle.rhai_grammar.specs.Beginnings.{missing};
 ghost use Rattle.rhai_grammar.specs.Delivered.{is_end};
-ghost use Rattle.rhai_grammar.specs.Literals.{NoKey, key_place, no_key, no_property};
+ghost use Rattle.rhai_grammar.specs.Literals.{NoKey, key_role, no_key, no_property};
 ghost use Rattle.rhai_base.specs.MapKeys.{is_interpolated, is_reserved_word, key_found, refused_key};
 
 use crate::leaves::refusals::missing_token;
@@ -80,9 +80,9 @@ pub fn key_at(
     quoted: bool,
     first: bool,
 ) -> ParseResult<Option<RcStr>>
-    ensures key { IfOk result (λ key. key_place quoted first (lexeme token.now) ≡ key_found key) }
+    ensures key { IfOk result (λ key. key_role quoted first (lexeme token.now) ≡ key_found key) }
     ensures refused { IfErr result (λ e. is_for_memory e ≡ false
-        → (key_place quoted first (lexeme token.now) ≡ NoKey (cause_of e.0)) × (e.1 ≡ pos)) }
+        → (key_role quoted first (lexeme token.now) ≡ NoKey (cause_of e.0)) × (e.1 ≡ pos)) }
     ensures nowhere { IfErr result MemoryIsNowhere }
 {
     match token {

@@ -3,9 +3,9 @@
 ghost use Rattle.std.specs.Prelude.{◌≡◌, IfErr, IfOk, IsTrue, OnOk, false, true};
 ghost use Rattle.rhai_lower.specs.Lexemes.{lexeme};
 ghost use Rattle.rhai_grammar.specs.Beginnings.{AMember, NoMember, is_link, is_name, is_negated, linking};
-ghost use Rattle.rhai_grammar.specs.Beginnings.{may_be_method, member_place, qualifies};
+ghost use Rattle.rhai_grammar.specs.Beginnings.{may_be_method, member_role, qualifies};
 ghost use Rattle.rhai_grammar.specs.Causes.{MemoryIsNowhere, is_for_memory, refusal, refusal_of};
-ghost use Rattle.rhai_grammar.specs.Cursors.{asked, cursor_of, looking};
+ghost use Rattle.rhai_grammar.specs.Cursors.{next_item, cursor_of, after_peek};
 ghost use Rattle.rhai_grammar.specs.Delivered.{is_end, is_memory};
 ghost use Rattle.rhai_grammar.specs.Verdicts.{no_path};
 ghost use Rattle.rhai_base.specs.Members.{no_member};
@@ -36,9 +36,9 @@ pub fn what_links(token: &Token) -> Linking
 /// comes where the tokenizer ran out of memory at that token.
 #[inline(always)]
 pub fn ends_operand(input: &mut TokenStream) -> Result<bool, AllocError>
-    ensures value { IfOk result (λ ends. ends ≡ ends_operand (asked (cursor_of input.old)).lexeme) }
-    ensures after { cursor_of input.new ≡ looking (cursor_of input.old) }
-    ensures readable { OnOk result (is_memory (asked (cursor_of input.old)).lexeme ≡ false) }
+    ensures value { IfOk result (λ ends. ends ≡ ends_operand (next_item (cursor_of input.old)).lexeme) }
+    ensures after { cursor_of input.new ≡ after_peek (cursor_of input.old) }
+    ensures readable { OnOk result (is_memory (next_item (cursor_of input.old)).lexeme ≡ false) }
 {
     let (token, _) = peek(input)?;
     Ok(!calls(token) && !qualifies(token) && matches!(what_links(token), Linking::Nothing))
@@ -60,8 +60,8 @@ fn may_be_method(word: &str) -> bool
 
 // Whether a token may stand after a dot: a name, or a reserved word that may be called as a method.
 fn is_member(token: &Token) -> bool
-    ensures member { IsTrue result → (member_place (lexeme token.now) ≡ AMember) × (is_end (lexeme token.now) ≡ false) }
-    ensures other { result ≡ false → member_place (lexeme token.now) ≡ NoMember (no_member (lexeme token.now)) }
+    ensures member { IsTrue result → (member_role (lexeme token.now) ≡ AMember) × (is_end (lexeme token.now) ≡ false) }
+    ensures other { result ≡ false → member_role (lexeme token.now) ≡ NoMember (no_member (lexeme token.now)) }
 {
     match token {
         Token::Identifier(_) => true,
@@ -72,17 +72,17 @@ fn is_member(token: &Token) -> bool
 
 /// Looks at the member that is due after a dot; its token stays.
 pub fn member_due(input: &mut TokenStream) -> ParseResult<()>
-    ensures member { OnOk result ((member_place (asked (cursor_of input.old)).lexeme ≡ AMember)
-        × (is_end (asked (cursor_of input.old)).lexeme ≡ false)
-        × (is_memory (asked (cursor_of input.old)).lexeme ≡ false)) }
+    ensures member { OnOk result ((member_role (next_item (cursor_of input.old)).lexeme ≡ AMember)
+        × (is_end (next_item (cursor_of input.old)).lexeme ≡ false)
+        × (is_memory (next_item (cursor_of input.old)).lexeme ≡ false)) }
     ensures refused { IfErr result (λ e. is_for_memory e ≡ false
-        → (member_place (asked (cursor_of input.old)).lexeme
-        ≡ NoMember (no_member (asked (cursor_of input.old)).lexeme))
-        × (is_memory (asked (cursor_of input.old)).lexeme ≡ false)
-        × (refusal_of e ≡ refusal (no_member (asked (cursor_of input.old)).lexeme)
-        (asked (cursor_of input.old)).at)) }
+        → (member_role (next_item (cursor_of input.old)).lexeme
+        ≡ NoMember (no_member (next_item (cursor_of input.old)).lexeme))
+        × (is_memory (next_item (cursor_of input.old)).lexeme ≡ false)
+        × (refusal_of e ≡ refusal (no_member (next_item (cursor_of input.old)).lexeme)
+        (next_item (cursor_of input.old)).at)) }
     ensures nowhere { IfErr result MemoryIsNowhere }
-    ensures after { cursor_of input.new ≡ looking (cursor_of input.old) }
+    ensures after { cursor_of input.new ≡ after_peek (cursor_of input.old) }
 {
     let (token, pos) = peek(input)?;
     if is_member(token) {
@@ -102,14 +102,14 @@ pub fn is_name(token: &Token) -> bool
 ///
 /// The error is `ImproperSymbol` at the `::`, or `OutOfMemory`.
 pub fn unscoped(alloc: Global, input: &mut TokenStream) -> ParseResult<()>
-    ensures passes { OnOk result ((qualifies (asked (cursor_of input.old)).lexeme ≡ false)
-        × (is_memory (asked (cursor_of input.old)).lexeme ≡ false)) }
+    ensures passes { OnOk result ((qualifies (next_item (cursor_of input.old)).lexeme ≡ false)
+        × (is_memory (next_item (cursor_of input.old)).lexeme ≡ false)) }
     ensures refused { IfErr result (λ e. is_for_memory e ≡ false
-        → (qualifies (asked (cursor_of input.old)).lexeme ≡ true)
-        × (is_memory (asked (cursor_of input.old)).lexeme ≡ false)
-        × (refusal_of e ≡ refusal no_path (asked (cursor_of input.old)).at)) }
+        → (qualifies (next_item (cursor_of input.old)).lexeme ≡ true)
+        × (is_memory (next_item (cursor_of input.old)).lexeme ≡ false)
+        × (refusal_of e ≡ refusal no_path (next_item (cursor_of input.old)).at)) }
     ensures nowhere { IfErr result MemoryIsNowhere }
-    ensures after { cursor_of input.new ≡ looking (cursor_of input.old) }
+    ensures after { cursor_of input.new ≡ after_peek (cursor_of input.old) }
 {
     let (token, pos) = peek(input)?;
     if qualifies(token) {

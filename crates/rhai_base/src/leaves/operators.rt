@@ -3,7 +3,7 @@
 ghost use Rattle.std.specs.Prelude.{◌≡◌, IfErr, IfOk, IsSome, OnOk, false};
 ghost use Rattle.rhai_lower.specs.Lexemes.{lexeme, text_of};
 ghost use Rattle.rhai_grammar.specs.Causes.{MemoryIsNowhere, UnknownOperator, is_for_memory, refusal, refusal_of};
-ghost use Rattle.rhai_grammar.specs.Cursors.{asked, cursor_of, looking};
+ghost use Rattle.rhai_grammar.specs.Cursors.{next_item, cursor_of, after_peek};
 ghost use Rattle.rhai_grammar.specs.Delivered.{is_end, is_memory};
 ghost use Rattle.rhai_grammar.specs.Strengths.{Unknown, follower_of};
 ghost use Rattle.rhai_grammar.specs.Strengths.{bars_pipe, is_pipe};
@@ -84,17 +84,17 @@ pub fn next_operator(
     filter: ExprFilter,
     input: &mut TokenStream,
 ) -> ParseResult<Option<Operator>>
-    ensures found { IfOk result (λ o. follower_of filter (asked (cursor_of input.old)).lexeme ≡ operator_found o) }
+    ensures found { IfOk result (λ o. follower_of filter (next_item (cursor_of input.old)).lexeme ≡ operator_found o) }
     ensures refused { IfErr result (λ e. is_for_memory e ≡ false
-        → (follower_of filter (asked (cursor_of input.old)).lexeme
-        ≡ Unknown (text_of (asked (cursor_of input.old)).lexeme))
-        × (is_memory (asked (cursor_of input.old)).lexeme ≡ false)
-        × (refusal_of e ≡ refusal (UnknownOperator (text_of (asked (cursor_of input.old)).lexeme))
-        (asked (cursor_of input.old)).at)) }
+        → (follower_of filter (next_item (cursor_of input.old)).lexeme
+        ≡ Unknown (text_of (next_item (cursor_of input.old)).lexeme))
+        × (is_memory (next_item (cursor_of input.old)).lexeme ≡ false)
+        × (refusal_of e ≡ refusal (UnknownOperator (text_of (next_item (cursor_of input.old)).lexeme))
+        (next_item (cursor_of input.old)).at)) }
     ensures nowhere { IfErr result MemoryIsNowhere }
-    ensures after { cursor_of input.new ≡ looking (cursor_of input.old) }
-    ensures some { IfOk result (λ o. IsSome o → is_end (asked (cursor_of input.old)).lexeme ≡ false) }
-    ensures readable { OnOk result (is_memory (asked (cursor_of input.old)).lexeme ≡ false) }
+    ensures after { cursor_of input.new ≡ after_peek (cursor_of input.old) }
+    ensures some { IfOk result (λ o. IsSome o → is_end (next_item (cursor_of input.old)).lexeme ≡ false) }
+    ensures readable { OnOk result (is_memory (next_item (cursor_of input.old)).lexeme ≡ false) }
 {
     let (token, pos) = peek(input)?;
     if ends_expression(token) {

@@ -26,7 +26,7 @@ pub fn unexpected(alloc: Global, token: &Token, pos: Position) -> ParseError
 }
 
 /// The refusal of a reserved symbol that stands where an operator may. It is apart from its callers, since a function
-/// clears all the places that it has when it begins.
+/// clears all its locals when it begins.
 #[inline(never)]
 pub fn unknown_operator(alloc: Global, token: &Token, pos: Position) -> ParseError
     ensures { Says (refusal (UnknownOperator (text_of (lexeme token.now))) pos) result }

@@ -8,16 +8,16 @@ ghost use Rattle.rhai_lower.specs.Lexemes.{lexeme};
 ghost use Rattle.rhai_grammar.specs.Beginnings.{missing};
 ghost use Rattle.rhai_grammar.specs.Causes.{MemoryIsNowhere, cause_of, is_for_memory, refusal, refusal_of};
 ghost use Rattle.rhai_grammar.specs.Contexts.{Context, allows_looping};
-ghost use Rattle.rhai_grammar.specs.Cursors.{asked, cursor_of, left, looking};
+ghost use Rattle.rhai_grammar.specs.Cursors.{next_item, cursor_of, left, after_peek};
 ghost use Rattle.rhai_grammar.specs.Delivered.{is_end, is_memory};
 ghost use Rattle.rhai_grammar.specs.Statements.{allowed_start, any_start, defines, is_comment};
-ghost use Rattle.rhai_grammar.specs.Statements.{no_variable, statement_place, statement_start, token_after_statement};
+ghost use Rattle.rhai_grammar.specs.Statements.{no_variable, statement_role, statement_start, token_after_statement};
 ghost use Rattle.rhai_grammar.specs.Targets.{is_assignment, is_equals};
 ghost use Rattle.rhai_grammar.specs.declared.role.AfterStatement.TheVariants.{SemiColon};
-ghost use Rattle.rhai_grammar.specs.declared.role.StatementPlace.TheVariants.{Nothing, Statement};
+ghost use Rattle.rhai_grammar.specs.declared.role.StatementRole.TheVariants.{Nothing, Statement};
 ghost use Rattle.rhai_reading.specs.Reading.{Alias};
 ghost use Rattle.rhai_base.specs.Leaves.{GivesAt};
-ghost use Rattle.rhai_base.specs.Statements.{Names, Separates, TakesComment, TakesText, is_expression, place_found};
+ghost use Rattle.rhai_base.specs.Statements.{Names, Separates, TakesComment, TakesText, is_expression, role_found};
 
 use crate::cursor::{peek, skip};
 use crate::leaves::constructs::may_stand;
@@ -25,7 +25,7 @@ use crate::leaves::due::pass_token;
 use crate::leaves::refusals::missing;
 use rhai_grammar::{
     AfterStatement, Closing, Construct, DueToken, InputError, ParseError, ParseErrorType,
-    ParseResult, StatementPlace, StatementStart,
+    ParseResult, StatementRole, StatementStart,
 };
 use rhai_lower::{Position, Token, TokenStream, is_valid_identifier};
 use std::alloc::{AllocError, Global};
@@ -99,7 +99,7 @@ fn is_comment(token: &Token) -> bool
 pub fn take_text(alloc: Global, input: &mut TokenStream) -> Result<(RcStr, Position), AllocError>
     ensures text { TakesText (cursor_of input.old) result (cursor_of input.new) }
     ensures shorter { left (cursor_of input.new).tokens ≤ left (cursor_of input.old).tokens }
-    ensures shrinks { is_end (asked (cursor_of input.old)).lexeme ≡ false
+    ensures shrinks { is_end (next_item (cursor_of input.old)).lexeme ≡ false
         → OnOk result (left (cursor_of input.new).tokens + 1 ≤ left (cursor_of input.old).tokens) }
 {
     let (token, pos) = peek(input)?;
@@ -129,19 +129,19 @@ pub fn take_comment(
 }
 
 // What a token is where a statement of a list may begin.
-fn statement_place(closing: Closing, token: &Token) -> StatementPlace
-    ensures place { result ≡ statement_place closing (lexeme token.now) }
+fn statement_role(closing: Closing, token: &Token) -> StatementRole
+    ensures place { result ≡ statement_role closing (lexeme token.now) }
     ensures more { result ≡ Statement → is_end (lexeme token.now) ≡ false }
 {
     match closing {
         Closing::Brace => match token {
-            Token::RightBrace => StatementPlace::Close,
-            Token::EOF => StatementPlace::Nothing,
-            _ => StatementPlace::Statement,
+            Token::RightBrace => StatementRole::Close,
+            Token::EOF => StatementRole::Nothing,
+            _ => StatementRole::Statement,
         },
         Closing::EndMark => match token {
-            Token::EOF => StatementPlace::Close,
-            _ => StatementPlace::Statement,
+            Token::EOF => StatementRole::Close,
+            _ => StatementRole::Statement,
         },
     }
 }
@@ -150,23 +150,23 @@ fn statement_place(closing: Closing, token: &Token) -> StatementPlace
 ///
 /// In a block, the end mark is refused as a missing `}`; if memory runs out, the error is `OutOfMemory`.
 pub fn list_ends(alloc: Global, input: &mut TokenStream, closing: Closing) -> ParseResult<bool>
-    ensures place { IfOk result (λ ends. statement_place closing (asked (cursor_of input.old)).lexeme
-        ≡ place_found ends) }
-    ensures more { IfOk result (λ ends. ends ≡ false → is_end (asked (cursor_of input.old)).lexeme ≡ false) }
+    ensures place { IfOk result (λ ends. statement_role closing (next_item (cursor_of input.old)).lexeme
+        ≡ role_found ends) }
+    ensures more { IfOk result (λ ends. ends ≡ false → is_end (next_item (cursor_of input.old)).lexeme ≡ false) }
     ensures refused { IfErr result (λ e. is_for_memory e ≡ false
-        → (statement_place closing (asked (cursor_of input.old)).lexeme ≡ Nothing)
-        × (is_memory (asked (cursor_of input.old)).lexeme ≡ false)
-        × (refusal_of e ≡ refusal (missing (codes "}") (asked (cursor_of input.old)).lexeme)
-        (asked (cursor_of input.old)).at)) }
+        → (statement_role closing (next_item (cursor_of input.old)).lexeme ≡ Nothing)
+        × (is_memory (next_item (cursor_of input.old)).lexeme ≡ false)
+        × (refusal_of e ≡ refusal (missing (codes "}") (next_item (cursor_of input.old)).lexeme)
+        (next_item (cursor_of input.old)).at)) }
     ensures nowhere { IfErr result MemoryIsNowhere }
-    ensures after { cursor_of input.new ≡ looking (cursor_of input.old) }
-    ensures readable { OnOk result (is_memory (asked (cursor_of input.old)).lexeme ≡ false) }
+    ensures after { cursor_of input.new ≡ after_peek (cursor_of input.old) }
+    ensures readable { OnOk result (is_memory (next_item (cursor_of input.old)).lexeme ≡ false) }
 {
     let (token, pos) = peek(input)?;
-    match statement_place(closing, token) {
-        StatementPlace::Close => Ok(true),
-        StatementPlace::Statement => Ok(false),
-        StatementPlace::Nothing => {
+    match statement_role(closing, token) {
+        StatementRole::Close => Ok(true),
+        StatementRole::Statement => Ok(false),
+        StatementRole::Nothing => {
             Err(missing(alloc, "}", "to terminate this block", token, *pos))
         }
     }
@@ -272,11 +272,11 @@ fn defines(token: &Token) -> Option<bool>
 /// What stands after `export`, whose token stays: a definition, and then whether it is a constant's, or none, where a
 /// name is due. The error comes where the tokenizer ran out of memory at that token.
 pub fn what_is_exported(input: &mut TokenStream) -> Result<Option<bool>, AllocError>
-    ensures value { IfOk result (λ constant. constant ≡ defines (asked (cursor_of input.old)).lexeme) }
+    ensures value { IfOk result (λ constant. constant ≡ defines (next_item (cursor_of input.old)).lexeme) }
     ensures more { IfOk result (λ constant. IfSome constant (λ b.
-        is_end (asked (cursor_of input.old)).lexeme ≡ false)) }
-    ensures after { cursor_of input.new ≡ looking (cursor_of input.old) }
-    ensures readable { OnOk result (is_memory (asked (cursor_of input.old)).lexeme ≡ false) }
+        is_end (next_item (cursor_of input.old)).lexeme ≡ false)) }
+    ensures after { cursor_of input.new ≡ after_peek (cursor_of input.old) }
+    ensures readable { OnOk result (is_memory (next_item (cursor_of input.old)).lexeme ≡ false) }
 {
     let (token, _) = peek(input)?;
     Ok(defines(token))
@@ -314,10 +314,10 @@ pub fn is_assignment(token: &Token) -> bool
 
 /// Whether the next token, which stays, is `=`. The error comes where the tokenizer ran out of memory at that token.
 pub fn has_value(input: &mut TokenStream) -> Result<bool, AllocError>
-    ensures value { IfOk result (λ equals. equals ≡ is_equals (asked (cursor_of input.old)).lexeme) }
-    ensures more { IfOk result (λ equals. IsTrue equals → is_end (asked (cursor_of input.old)).lexeme ≡ false) }
-    ensures after { cursor_of input.new ≡ looking (cursor_of input.old) }
-    ensures readable { OnOk result (is_memory (asked (cursor_of input.old)).lexeme ≡ false) }
+    ensures value { IfOk result (λ equals. equals ≡ is_equals (next_item (cursor_of input.old)).lexeme) }
+    ensures more { IfOk result (λ equals. IsTrue equals → is_end (next_item (cursor_of input.old)).lexeme ≡ false) }
+    ensures after { cursor_of input.new ≡ after_peek (cursor_of input.old) }
+    ensures readable { OnOk result (is_memory (next_item (cursor_of input.old)).lexeme ≡ false) }
 {
     let (token, _) = peek(input)?;
     Ok(is_equals(token))
@@ -326,10 +326,10 @@ pub fn has_value(input: &mut TokenStream) -> Result<bool, AllocError>
 /// Whether the next token, which stays, makes the expression before it the target of an assignment. The error comes
 /// where the tokenizer ran out of memory at that token.
 pub fn assigns(input: &mut TokenStream) -> Result<bool, AllocError>
-    ensures value { IfOk result (λ assigns. assigns ≡ is_assignment (asked (cursor_of input.old)).lexeme) }
-    ensures more { IfOk result (λ assigns. IsTrue assigns → is_end (asked (cursor_of input.old)).lexeme ≡ false) }
-    ensures after { cursor_of input.new ≡ looking (cursor_of input.old) }
-    ensures readable { OnOk result (is_memory (asked (cursor_of input.old)).lexeme ≡ false) }
+    ensures value { IfOk result (λ assigns. assigns ≡ is_assignment (next_item (cursor_of input.old)).lexeme) }
+    ensures more { IfOk result (λ assigns. IsTrue assigns → is_end (next_item (cursor_of input.old)).lexeme ≡ false) }
+    ensures after { cursor_of input.new ≡ after_peek (cursor_of input.old) }
+    ensures readable { OnOk result (is_memory (next_item (cursor_of input.old)).lexeme ≡ false) }
 {
     let (token, _) = peek(input)?;
     Ok(is_assignment(token))

@@ -3,16 +3,16 @@
 ghost use Rattle.std.specs.Prelude.{◌≡◌, IfOk, IsTrue, OnOk, false, true};
 ghost use Rattle.rhai_lower.specs.Lexemes.{lexeme};
 ghost use Rattle.rhai_grammar.specs.Delivered.{is_end, is_memory};
-ghost use Rattle.rhai_grammar.specs.Cursors.{asked, cursor_of, looking};
+ghost use Rattle.rhai_grammar.specs.Cursors.{next_item, cursor_of, after_peek};
 ghost use Rattle.rhai_grammar.specs.Beginnings.{beginning, calling, calls, excludes_use, is_begun, is_call};
 ghost use Rattle.rhai_grammar.specs.Beginnings.{is_sign, is_value, omits_operand, qualifies};
 ghost use Rattle.rhai_grammar.specs.CommaLists.{no_argument};
 ghost use Rattle.rhai_base.specs.Closures.{EndsHere};
-ghost use Rattle.rhai_grammar.specs.Starts.{jumps, operand_start, place_after};
+ghost use Rattle.rhai_grammar.specs.Starts.{jumps, operand_start, role_after};
 ghost use Rattle.rhai_grammar.specs.declared.role.OperandStart.TheVariants.{Jump};
 
 use crate::cursor::peek;
-use rhai_grammar::role::{Bars, OperandPlace, OperandStart};
+use rhai_grammar::role::{Bars, OperandRole, OperandStart};
 use rhai_grammar::{Beginning, Calling, Construct};
 use rhai_lower::{Position, Token, TokenStream};
 use std::alloc::AllocError;
@@ -92,27 +92,27 @@ pub fn is_sign(token: &Token) -> bool
     )
 }
 
-/// The place of the operand that is directly after this operator.
-pub fn place_after(op: &Token) -> OperandPlace
-    ensures { result ≡ place_after (lexeme op.now) }
+/// The role of the operand that is directly after this operator.
+pub fn role_after(op: &Token) -> OperandRole
+    ensures { result ≡ role_after (lexeme op.now) }
 {
     match op {
-        Token::ExclusiveRange | Token::InclusiveRange => OperandPlace::AfterRange,
-        Token::DoubleQuestion => OperandPlace::AfterCoalesce,
-        _ => OperandPlace::Elsewhere,
+        Token::ExclusiveRange | Token::InclusiveRange => OperandRole::AfterRange,
+        Token::DoubleQuestion => OperandRole::AfterCoalesce,
+        _ => OperandRole::Elsewhere,
     }
 }
 
-/// What a token is where an operand is due, at its place: after a range operator the operand may be omitted, and after
+/// What a token is where an operand of this role is due: after a range operator the operand may be omitted, and after
 /// `??` there may be a `return`, `throw`, `break` or `continue`.
-pub fn what_operand(place: OperandPlace, token: &Token) -> OperandStart
+pub fn what_operand(place: OperandRole, token: &Token) -> OperandStart
     ensures operand { result ≡ operand_start place (lexeme token.now) }
     ensures more { result ≡ Jump → is_end (lexeme token.now) ≡ false }
 {
     match place {
-        OperandPlace::AfterRange if omits_operand(token) => OperandStart::Omitted,
-        OperandPlace::AfterCoalesce if jumps(token) => OperandStart::Jump,
-        OperandPlace::AfterRange | OperandPlace::AfterCoalesce | OperandPlace::Elsewhere => {
+        OperandRole::AfterRange if omits_operand(token) => OperandStart::Omitted,
+        OperandRole::AfterCoalesce if jumps(token) => OperandStart::Jump,
+        OperandRole::AfterRange | OperandRole::AfterCoalesce | OperandRole::Elsewhere => {
             OperandStart::Written
         }
     }
@@ -161,9 +161,9 @@ pub(crate) fn calls(token: &Token) -> bool
 /// Whether the next token, which stays, calls the name before it. The error comes where the tokenizer ran out of memory
 /// at that token.
 pub fn is_called(input: &mut TokenStream) -> Result<bool, AllocError>
-    ensures value { IfOk result (λ called. called ≡ calls (asked (cursor_of input.old)).lexeme) }
-    ensures after { cursor_of input.new ≡ looking (cursor_of input.old) }
-    ensures readable { OnOk result (is_memory (asked (cursor_of input.old)).lexeme ≡ false) }
+    ensures value { IfOk result (λ called. called ≡ calls (next_item (cursor_of input.old)).lexeme) }
+    ensures after { cursor_of input.new ≡ after_peek (cursor_of input.old) }
+    ensures readable { OnOk result (is_memory (next_item (cursor_of input.old)).lexeme ≡ false) }
 {
     let (token, _) = peek(input)?;
     Ok(calls(token))
@@ -180,9 +180,9 @@ pub(crate) fn qualifies(token: &Token) -> bool
 /// Whether the name before the next token, which stays, is no use of a variable: it is called, or part of a path. The
 /// error comes where the tokenizer ran out of memory at that token.
 pub fn excludes_use(input: &mut TokenStream) -> Result<bool, AllocError>
-    ensures value { IfOk result (λ excluded. excluded ≡ excludes_use (asked (cursor_of input.old)).lexeme) }
-    ensures after { cursor_of input.new ≡ looking (cursor_of input.old) }
-    ensures readable { OnOk result (is_memory (asked (cursor_of input.old)).lexeme ≡ false) }
+    ensures value { IfOk result (λ excluded. excluded ≡ excludes_use (next_item (cursor_of input.old)).lexeme) }
+    ensures after { cursor_of input.new ≡ after_peek (cursor_of input.old) }
+    ensures readable { OnOk result (is_memory (next_item (cursor_of input.old)).lexeme ≡ false) }
 {
     let (token, _) = peek(input)?;
     Ok(calls(token) || qualifies(token))
@@ -191,9 +191,9 @@ pub fn excludes_use(input: &mut TokenStream) -> Result<bool, AllocError>
 /// The position of the next token, which stays, if it is the end mark. The error comes where the tokenizer ran out of
 /// memory at that token.
 pub fn ends_here(input: &mut TokenStream) -> Result<Option<Position>, AllocError>
-    ensures end { IfOk result (EndsHere (asked (cursor_of input.old))) }
-    ensures after { cursor_of input.new ≡ looking (cursor_of input.old) }
-    ensures readable { OnOk result (is_memory (asked (cursor_of input.old)).lexeme ≡ false) }
+    ensures end { IfOk result (EndsHere (next_item (cursor_of input.old))) }
+    ensures after { cursor_of input.new ≡ after_peek (cursor_of input.old) }
+    ensures readable { OnOk result (is_memory (next_item (cursor_of input.old)).lexeme ≡ false) }
 {
     let (token, pos) = peek(input)?;
     if is_end(token) {
@@ -205,11 +205,11 @@ pub fn ends_here(input: &mut TokenStream) -> Result<Option<Position>, AllocError
 /// Whether the next token, which stays, is the `::` that makes the name before it part of a path. The error comes where
 /// the tokenizer ran out of memory at that token.
 pub fn is_qualified(input: &mut TokenStream) -> Result<bool, AllocError>
-    ensures value { IfOk result (λ qualified. qualified ≡ qualifies (asked (cursor_of input.old)).lexeme) }
+    ensures value { IfOk result (λ qualified. qualified ≡ qualifies (next_item (cursor_of input.old)).lexeme) }
     ensures more { IfOk result (λ qualified. IsTrue qualified
-        → is_end (asked (cursor_of input.old)).lexeme ≡ false) }
-    ensures after { cursor_of input.new ≡ looking (cursor_of input.old) }
-    ensures readable { OnOk result (is_memory (asked (cursor_of input.old)).lexeme ≡ false) }
+        → is_end (next_item (cursor_of input.old)).lexeme ≡ false) }
+    ensures after { cursor_of input.new ≡ after_peek (cursor_of input.old) }
+    ensures readable { OnOk result (is_memory (next_item (cursor_of input.old)).lexeme ≡ false) }
 {
     let (token, _) = peek(input)?;
     Ok(qualifies(token))

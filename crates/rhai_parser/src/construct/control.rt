@@ -9,7 +9,7 @@ ghost use Rattle.rhai_grammar.specs.Trees.{caught_name};
 ghost use Rattle.rhai_reading.specs.Reading.{guard_on, tested};
 ghost use Rattle.rhai_reading.specs.Running.{Caller, Gives, Progress, exec};
 ghost use Rattle.rhai_parser.specs.Readers.{GoesOn, name_view, state_of};
-ghost use Rattle.rhai_parser.specs.Rooms.{Steady};
+ghost use Rattle.rhai_parser.specs.Heights.{Steady};
 
 use crate::shared::Shared;
 use rhai_base::Frame;

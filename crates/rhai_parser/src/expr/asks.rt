@@ -18,12 +18,12 @@ ghost use Rattle.rhai_grammar.specs.Signs.{sign_result};
 ghost use Rattle.rhai_grammar.specs.Trees.{is_variable};
 ghost use Rattle.rhai_trees.specs.Chains.{chain_view};
 ghost use Rattle.rhai_reading.specs.Reading.{index_on, tested};
-ghost use Rattle.rhai_reading.specs.Running.{Caller, Gives, Progress, asked, exec, looking};
+ghost use Rattle.rhai_reading.specs.Running.{Caller, Gives, Progress, next_item, exec, after_peek};
 ghost use Rattle.rhai_parser.specs.Readers.{GoesOn, Reads, state_of};
 ghost use Rattle.rhai_parser.specs.NextOperators.{operator_pair};
 ghost use Rattle.rhai_parser.specs.ExprViews.{linked};
 ghost use Rattle.rhai_parser.specs.Runs.{NextIs};
-ghost use Rattle.rhai_parser.specs.Rooms.{Steady};
+ghost use Rattle.rhai_parser.specs.Heights.{Steady};
 
 use crate::shared::Shared;
 use rhai_base::leaves::due::match_token;
@@ -47,9 +47,9 @@ pub(crate) fn next_operator(
     ensures steady { Steady shared.old shared.new }
     ensures reads { Reads (NextOperator filter) (option_map operator_pair) shared.old result shared.new }
     ensures next { IfOk result (λ o. NextIs filter o (state_of shared.new)) }
-    ensures after { state_of shared.new ≡ looking (state_of shared.old) }
-    ensures some { IfOk result (λ o. IsSome o → is_end (asked (state_of shared.old)).lexeme ≡ false) }
-    ensures readable { OnOk result (is_memory (asked (state_of shared.old)).lexeme ≡ false) }
+    ensures after { state_of shared.new ≡ after_peek (state_of shared.old) }
+    ensures some { IfOk result (λ o. IsSome o → is_end (next_item (state_of shared.old)).lexeme ≡ false) }
+    ensures readable { OnOk result (is_memory (next_item (state_of shared.old)).lexeme ≡ false) }
 {
     operators::next_operator(alloc, filter, shared.input)
 }
@@ -125,9 +125,9 @@ pub(crate) fn test_module(
 pub(crate) fn ends_here(shared: &mut Shared<'_>) -> Result<bool, AllocError>
     ensures goes_on { GoesOn shared.old shared.new }
     ensures steady { Steady shared.old shared.new }
-    ensures value { IfOk result (λ ends. ends ≡ ends_operand (asked (state_of shared.old)).lexeme) }
-    ensures after { state_of shared.new ≡ looking (state_of shared.old) }
-    ensures readable { OnOk result (is_memory (asked (state_of shared.old)).lexeme ≡ false) }
+    ensures value { IfOk result (λ ends. ends ≡ ends_operand (next_item (state_of shared.old)).lexeme) }
+    ensures after { state_of shared.new ≡ after_peek (state_of shared.old) }
+    ensures readable { OnOk result (is_memory (next_item (state_of shared.old)).lexeme ≡ false) }
 {
     ends_operand(shared.input)
 }

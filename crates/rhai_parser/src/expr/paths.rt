@@ -6,10 +6,10 @@ ghost use Rattle.rhai_lower.specs.View.{named};
 ghost use Rattle.rhai_grammar.specs.Beginnings.{qualifies};
 ghost use Rattle.rhai_grammar.specs.Contexts.{Context};
 ghost use Rattle.rhai_reading.specs.Reading.{Path, Postfix, call_on};
-ghost use Rattle.rhai_reading.specs.Running.{Fails, asked, exec, guarded, result_of};
+ghost use Rattle.rhai_reading.specs.Running.{Fails, next_item, exec, guarded, result_of};
 ghost use Rattle.rhai_parser.specs.Readers.{GoesOn, Reads, state_of};
 ghost use Rattle.rhai_parser.specs.ExprViews.{variable_view};
-ghost use Rattle.rhai_parser.specs.Rooms.{Steady};
+ghost use Rattle.rhai_parser.specs.Heights.{Steady};
 
 use crate::shared::Shared;
 use rhai_base::Frame;
@@ -31,7 +31,7 @@ pub(crate) fn next_path(
     name: Box<VariableExpr>,
     pos: Position,
 ) -> ParseResult<(Box<VariableExpr>, Position)>
-    requires { qualifies (asked (state_of shared.old)).lexeme ≡ true }
+    requires { qualifies (next_item (state_of shared.old)).lexeme ≡ true }
     ensures goes_on { GoesOn shared.old shared.new }
     ensures steady { Steady shared.old shared.new }
     ensures reads { Reads (Path frame.now.live (variable (named name.value) pos)) variable_view shared.old result

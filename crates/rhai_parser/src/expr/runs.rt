@@ -12,10 +12,10 @@ ghost use Rattle.rhai_grammar.specs.Delivered.{is_end, is_memory};
 ghost use Rattle.rhai_grammar.specs.Operators.{operator_result};
 ghost use Rattle.rhai_base.specs.Settings.{IsDeeper, RaisesInRun, settings_of};
 ghost use Rattle.rhai_reading.specs.Reading.{Goal, NextOperator};
-ghost use Rattle.rhai_reading.specs.Running.{Gives, Progress, asked, exec, guarded};
+ghost use Rattle.rhai_reading.specs.Running.{Gives, Progress, next_item, exec, guarded};
 ghost use Rattle.rhai_parser.specs.Frames.{context_of, live_of};
 ghost use Rattle.rhai_parser.specs.Readers.{Covers, GoesOn, Reads, binary_op, state_of};
-ghost use Rattle.rhai_parser.specs.Rooms.{Stays};
+ghost use Rattle.rhai_parser.specs.Heights.{Stays};
 ghost use Rattle.rhai_parser.specs.Runs.{NextIs, in_run, right_side, side_view};
 
 use crate::expr::asks::next_operator;
@@ -24,7 +24,7 @@ use crate::reader::Reader;
 use crate::shared::Shared;
 use rhai_base::cursor::take;
 use rhai_base::leaves::operators::Operator;
-use rhai_base::leaves::tokens::place_after;
+use rhai_base::leaves::tokens::role_after;
 use rhai_base::{Frame, ParseSettings, RunSettings};
 use rhai_grammar::ParseResult;
 use rhai_lower::{Position, StringsInterner, Token};
@@ -158,8 +158,8 @@ impl<R: LentReaders> Reader<'_, R> {
         frame: &Frame<'_>,
         settings: ParseSettings,
     ) -> ParseResult<Side>
-        requires readable { is_memory (asked (state_of shared.old)).lexeme ≡ false }
-        requires more { is_end (asked (state_of shared.old)).lexeme ≡ false }
+        requires readable { is_memory (next_item (state_of shared.old)).lexeme ≡ false }
+        requires more { is_end (next_item (state_of shared.old)).lexeme ≡ false }
         requires lent { Covers (R.lent self.now.readers) (NextOperator frame.now.filter) shared.old }
         ensures goes_on { GoesOn shared.old shared.new }
         ensures shorter { OnOk result (left (state_of shared.new).cursor.tokens + 1
@@ -168,8 +168,8 @@ impl<R: LentReaders> Reader<'_, R> {
         ensures raises { IfOk result (λ r. RaisesInRun settings r.pos (Ok r.deeper)) }
         ensures deeper { IfOk result (λ r. IsDeeper settings r.deeper.side × IsDeeper settings r.deeper.next) }
         ensures next { IfOk result (λ r. NextIs frame.now.filter r.next (state_of shared.new)) }
-        ensures readable { OnOk result (is_memory (asked (state_of shared.new)).lexeme ≡ false) }
-        ensures more { IfOk result (λ r. IsSome r.next → is_end (asked (state_of shared.new)).lexeme ≡ false) }
+        ensures readable { OnOk result (is_memory (next_item (state_of shared.new)).lexeme ≡ false) }
+        ensures more { IfOk result (λ r. IsSome r.next → is_end (next_item (state_of shared.new)).lexeme ≡ false) }
         ensures reads { (g : Goal) (s : Progress)
             → left (state_of shared.old).cursor.tokens ≤ left s.cursor.tokens
             → Gives side_view (exec (guarded g s) (right_side
@@ -177,7 +177,7 @@ impl<R: LentReaders> Reader<'_, R> {
             (state_of shared.old)) result (state_of shared.new) }
     {
         let (op_token, pos) = take(shared.input);
-        let place = place_after(&op_token);
+        let place = role_after(&op_token);
         let rhs = nested!(
             shared,
             self.parse_right_operand(shared, frame, settings, place)
@@ -222,7 +222,7 @@ impl<R: LentReaders> Reader<'_, R> {
         }
     }
 
-    // The same, where there is such an operator, `next`. It is apart, since a function clears all its places when it
+    // The same, where there is such an operator, `next`. It is apart, since a function clears all its locals when it
     // begins, and most operands have no operator after them. A raise of the level is refused at `lhs`, and from the
     // first operator on at the one before.
     #[inline(never)]
@@ -237,8 +237,8 @@ impl<R: LentReaders> Reader<'_, R> {
         next: Option<Operator>,
     ) -> ParseResult<Chain>
         requires next { NextIs frame.now.filter next (state_of shared.old) }
-        requires readable { is_memory (asked (state_of shared.old)).lexeme ≡ false }
-        requires more { IsSome next → is_end (asked (state_of shared.old)).lexeme ≡ false }
+        requires readable { is_memory (next_item (state_of shared.old)).lexeme ≡ false }
+        requires more { IsSome next → is_end (next_item (state_of shared.old)).lexeme ≡ false }
         requires lent { Covers (R.lent self.now.readers) (binary_op self.now.engine.now frame.now settings
             (position_of (chain_view lhs)) parent (chain_view lhs)) shared.old }
         ensures goes_on { GoesOn shared.old shared.new }

@@ -5,7 +5,7 @@ ghost use Rattle.std.specs.Rc.{rc_str_bytes};
 ghost use Rattle.rhai_base.specs.Comments.{comment_of};
 ghost use Rattle.rhai_reading.specs.Reading.{Comments, ParameterList};
 ghost use Rattle.rhai_parser.specs.Readers.{GoesOn, Reads, comments_view, names_of};
-ghost use Rattle.rhai_parser.specs.Rooms.{Steady};
+ghost use Rattle.rhai_parser.specs.Heights.{Steady};
 
 use crate::parameters::next_parameters;
 use crate::shared::Shared;

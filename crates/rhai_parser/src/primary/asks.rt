@@ -15,11 +15,11 @@ ghost use Rattle.rhai_lower.specs.Lexemes.{Lexeme};
 ghost use Rattle.rhai_grammar.specs.Beginnings.{beginning, excludes_use, is_value};
 ghost use Rattle.rhai_grammar.specs.Contexts.{Context, Live};
 ghost use Rattle.rhai_reading.specs.Reading.{name_at};
-ghost use Rattle.rhai_reading.specs.Running.{Caller, Done, Gives, asked, exec, result_of};
+ghost use Rattle.rhai_reading.specs.Running.{Caller, Done, Gives, next_item, exec, result_of};
 ghost use Rattle.rhai_parser.specs.Frames.{context_of, live_of};
 ghost use Rattle.rhai_parser.specs.Engines.{EngineValue};
 ghost use Rattle.rhai_parser.specs.Readers.{GoesOn, Reads, state_of};
-ghost use Rattle.rhai_parser.specs.Rooms.{Steady};
+ghost use Rattle.rhai_parser.specs.Heights.{Steady};
 
 use crate::engine::Engine;
 use crate::primary::keys;
@@ -72,7 +72,7 @@ pub(crate) fn next_key(
 #[inline(always)]
 #[tactic(auto, using(crate::proofs::PrimaryReaders::take_value))]
 pub(crate) fn take_value(shared: &mut Shared<'_>) -> Result<Expr, AllocError>
-    requires value { is_value (beginning (asked (state_of shared.old)).lexeme) ≡ true }
+    requires value { is_value (beginning (next_item (state_of shared.old)).lexeme) ≡ true }
     ensures goes_on { GoesOn shared.old shared.new }
     ensures steady { Steady shared.old shared.new }
     ensures reads { (context : Context) (live : Live) → IfOk result (λ x. result_of (Primary context live)

@@ -10,7 +10,7 @@ ghost use Rattle.rhai_parser.specs.Frames.{context_of, live_of};
 ghost use Rattle.rhai_parser.specs.Engines.{EngineValue};
 ghost use Rattle.rhai_parser.specs.Readers.{Covers, GoesOn, Reads, names_of, state_of};
 ghost use Rattle.rhai_parser.specs.Closures.{UsesAll, closure, closure_body, closure_parameters};
-ghost use Rattle.rhai_parser.specs.Rooms.{Ends, Stays, Steady, function_room};
+ghost use Rattle.rhai_parser.specs.Heights.{Ends, Stays, Steady, function_height};
 
 use crate::lent::LentReaders;
 use crate::parameters::{declare_parameters, next_parameters};
@@ -71,7 +71,7 @@ impl<R: LentReaders> Reader<'_, R> {
             shared.old }
         ensures goes_on { GoesOn shared.old shared.new }
         ensures stays { Stays self.now.engine.now frame.old settings
-            (2 + function_room self.now.engine.now settings) shared.old shared.new }
+            (2 + function_height self.now.engine.now settings) shared.old shared.new }
         ensures reads { Reads (closure_body self.now.engine.now frame.old settings) statement_view shared.old
             result shared.new }
     {

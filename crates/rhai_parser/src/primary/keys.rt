@@ -3,7 +3,7 @@
 ghost use Rattle.std.specs.Prelude.{◌≡◌, ◌≤◌, IfErr, IfOk, OnOk, false};
 ghost use Rattle.rhai_lower.specs.View.{property_views};
 ghost use Rattle.rhai_grammar.specs.Causes.{MemoryIsNowhere, is_for_memory, refusal_of};
-ghost use Rattle.rhai_grammar.specs.Cursors.{asked, cursor_of, left, taking};
+ghost use Rattle.rhai_grammar.specs.Cursors.{next_item, cursor_of, left, after_take};
 ghost use Rattle.rhai_grammar.specs.Delivered.{is_memory};
 ghost use Rattle.rhai_grammar.specs.Verdicts.{next_key};
 ghost use Rattle.rhai_base.specs.Settings.{settings_of};
@@ -26,14 +26,14 @@ pub(crate) fn next_key(
     settings: ParseSettings,
     properties: &NamedList<(Ident, Expr)>,
 ) -> ParseResult<Option<Ident>>
-    ensures key { IfOk result (KeyIs (property_views properties.now) (asked (cursor_of input.old)).at
-        (next_key (settings_of settings) (property_views properties.now) (asked (cursor_of input.old)).lexeme)) }
-    ensures passed { OnOk result ((is_memory (asked (cursor_of input.old)).lexeme ≡ false)
-        × (cursor_of input.new ≡ taking (cursor_of input.old))) }
+    ensures key { IfOk result (KeyIs (property_views properties.now) (next_item (cursor_of input.old)).at
+        (next_key (settings_of settings) (property_views properties.now) (next_item (cursor_of input.old)).lexeme)) }
+    ensures passed { OnOk result ((is_memory (next_item (cursor_of input.old)).lexeme ≡ false)
+        × (cursor_of input.new ≡ after_take (cursor_of input.old))) }
     ensures refused { IfErr result (λ e. is_for_memory e ≡ false
-        → (is_memory (asked (cursor_of input.old)).lexeme ≡ false)
+        → (is_memory (next_item (cursor_of input.old)).lexeme ≡ false)
         × KeyRefused (property_views properties.now) (cursor_of input.old)
-        (next_key (settings_of settings) (property_views properties.now) (asked (cursor_of input.old)).lexeme)
+        (next_key (settings_of settings) (property_views properties.now) (next_item (cursor_of input.old)).lexeme)
         (refusal_of e) (cursor_of input.new)) }
     ensures nowhere { IfErr result MemoryIsNowhere }
     ensures shorter { left (cursor_of input.new).tokens ≤ left (cursor_of input.old).tokens }

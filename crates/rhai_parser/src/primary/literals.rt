@@ -5,7 +5,7 @@ ghost use Rattle.rhai_parser.specs.Readers.{Covers, GoesOn, Reads, elements, fie
 ghost use Rattle.rhai_parser.specs.Readers.{views_of};
 ghost use Rattle.rhai_grammar.specs.Interpolations.{added_text};
 ghost use Rattle.std.specs.Rc.{rc_str_bytes};
-ghost use Rattle.rhai_parser.specs.Rooms.{Stays};
+ghost use Rattle.rhai_parser.specs.Heights.{Stays};
 
 use crate::lent::LentReaders;
 use crate::primary::asks::next_key;
@@ -13,12 +13,12 @@ use crate::reader::Reader;
 use crate::shared::Shared;
 use rhai_base::cursor::{peek, skip};
 use rhai_base::leaves::blocks::begin_block;
-use rhai_base::leaves::items::item_place;
+use rhai_base::leaves::items::item_role;
 use rhai_base::leaves::lists::list_continues;
 use rhai_base::leaves::refusals::no_item;
 use rhai_base::leaves::strings::end_interpolation;
 use rhai_base::{Frame, ParseSettings};
-use rhai_grammar::{CommaList, ItemPlace, ParseResult};
+use rhai_grammar::{CommaList, ItemRole, ParseResult};
 use rhai_lower::{Expr, Ident, NamedList};
 use rhai_trees::{make_block, push_segment, push_text};
 use std::rc::RcStr;
@@ -44,13 +44,13 @@ impl<R: LentReaders> Reader<'_, R> {
         let mut items = Vec::new(self.engine.alloc());
         loop {
             let (token, pos) = peek(shared.input)?;
-            match item_place(token, limit, items.len()) {
-                ItemPlace::End => {
+            match item_role(token, limit, items.len()) {
+                ItemRole::End => {
                     skip(shared.input);
                     return Ok(items);
                 }
-                ItemPlace::Item => {}
-                ItemPlace::Nothing => return Err(no_item(self.engine.alloc(), limit, token, *pos)),
+                ItemRole::Item => {}
+                ItemRole::Nothing => return Err(no_item(self.engine.alloc(), limit, token, *pos)),
             }
             let deeper = settings.level_up()?;
             let item = self.readers.parse_expr(self.engine, shared, frame, deeper)?;

@@ -13,13 +13,13 @@ ghost use Rattle.rhai_base.specs.Settings.{settings_of};
 ghost use Rattle.rhai_reading.specs.Reading.{tested};
 ghost use Rattle.rhai_reading.specs.Running.{Caller, Gives, Progress, exec};
 ghost use Rattle.rhai_parser.specs.Readers.{GoesOn, Reads, name_view, var_name};
-ghost use Rattle.rhai_parser.specs.Rooms.{Steady};
+ghost use Rattle.rhai_parser.specs.Heights.{Steady};
 
 use crate::engine::Engine;
 use crate::shared::Shared;
+use rhai_base::allowed::{may_be_closure, may_be_value};
 use rhai_base::leaves::statements::parse_var_name;
 use rhai_base::leaves::tokens::what_begins;
-use rhai_base::places::{may_be_closure, may_be_value};
 use rhai_base::{Frame, ParseSettings};
 use rhai_grammar::{Beginning, ExprFilter, ParseResult};
 use rhai_lower::{Expr, Position, Stmt, Token};

@@ -7,7 +7,7 @@ ghost use Rattle.rhai_lower.specs.Nodes.{variable};
 ghost use Rattle.rhai_lower.specs.View.{statement_view};
 ghost use Rattle.rhai_grammar.specs.Definitions.{defined_as, exported, reused};
 ghost use Rattle.rhai_grammar.specs.Trees.{export_tree};
-ghost use Rattle.rhai_base.specs.Frames.{SamePlace};
+ghost use Rattle.rhai_base.specs.Frames.{SameSurroundings};
 
 use rhai_base::Frame;
 use rhai_lower::{Position, Stmt};
@@ -28,7 +28,7 @@ pub(crate) fn define_as(
     ensures number { IfOk result (λ number. option_map non_zero_usize_get number
         ≡ reused frame.old.live.block (rc_str_bytes name.now) frame.old.live.slots) }
     ensures ok { OnOk result (frame.new.live ≡ defined_as exported (rc_str_bytes name.now) constant frame.old.live) }
-    ensures place { SamePlace frame.old frame.new }
+    ensures place { SameSurroundings frame.old frame.new }
 {
     let number = frame.define(name, constant)?;
     if exported {
@@ -51,7 +51,7 @@ pub(crate) fn export_name(
         ≡ export_tree (rc_str_bytes name) (option_map rc_str_bytes alias) pos) }
     ensures ok { OnOk result (frame.new.live ≡ exported (rc_str_bytes name)
         (unwrap_or (option_map rc_str_bytes alias) (rc_str_bytes name)) frame.old.live) }
-    ensures place { SamePlace frame.old frame.new }
+    ensures place { SameSurroundings frame.old frame.new }
 {
     match &alias {
         Some(alias) => frame.export(&name, alias)?,

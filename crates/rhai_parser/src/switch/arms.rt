@@ -12,7 +12,7 @@ ghost use Rattle.rhai_reading.specs.Running.{Caller, Done, Gives, Out, Progress,
 ghost use Rattle.rhai_parser.specs.Readers.{GoesOn, state_of};
 ghost use Rattle.rhai_parser.specs.Switches.{action_view, arm_view, cases_view};
 ghost use Rattle.rhai_trees.specs.Arms.{arms_view};
-ghost use Rattle.rhai_parser.specs.Rooms.{Steady};
+ghost use Rattle.rhai_parser.specs.Heights.{Steady};
 
 use crate::shared::Shared;
 use rhai_base::leaves::arms::{arm_continues, as_literal, default_ends};

@@ -20,7 +20,7 @@ fn print_node(text: &mut String, depth: usize, node: Node<'_>) -> Result<(), All
     }
     indent(text, depth)?;
     match node {
-        Node::Expr(expr) => print_expr_line(text, expr),
+        Node::Expr(expr) | Node::Declared(expr) => print_expr_line(text, expr),
         Node::Stmt(statement) => print_statement_line(text, statement),
         Node::Block(block) => print_block_line(text, block),
         Node::Case(case) => print_case_line(text, case),

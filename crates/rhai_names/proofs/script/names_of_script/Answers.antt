@@ -11,7 +11,7 @@ use Rattle.rhai_parser.specs.Nesting.{NestsAsWritten, StaysWithin}
 use Rattle.rhai_parser.specs.Scripts.{ReadsScript}
 use Rattle.rhai_parser.specs.Starts.{live_in, starts_in}
 use Rattle.rhai_names.specs.FnNames.{AreNamesOf}
-use Rattle.rhai_names.specs.Scripts.{ReadsNames, Script}
+use Rattle.rhai_names.specs.Scripts.{Answer, ReadsNames}
 use Rattle.rhai_names.proofs.ScriptLemmas.{names_read, names_refused, names_unmade}
 use Rattle.rhai_names.proofs.script.names_of_script.Goals as goal
 
@@ -47,7 +47,7 @@ returns-in_err-names_of-clause-reads c = λ fresh.
     let same : r.left.now ≡ r.shown.now = search rules in
     let chosen : reads.0 ≡ script_settings c.args.engine.now = sym r.leaves ∙ same ∙ r.shows in
     let new = c.parse_global_level.new.state in
-    let script : Script = (c.in_ok-functions.field-0-0, c.in_ok-functions.functions) in
+    let script : Answer = (c.in_ok-functions.field-0-0, c.in_ok-functions.functions) in
     let is : c.from_residual-in_err-names_of.result ≡ Err no_memory = search rules in
     subst (ReadsNames (starts_in c.args.engine.now c.args.state.now (script_settings c.args.engine.now)) (live_in c.args.state.now)
     (library_of c.args.state.now.lib.now.entries) (library_of new.lib.now.entries) (cursor_of c.args.state.now.input.now) (cursor_of new.input.now)
@@ -73,7 +73,7 @@ returns-clause-reads c = λ fresh.
     let same : r.left.now ≡ r.shown.now = search rules in
     let chosen : reads.0 ≡ script_settings c.args.engine.now = sym r.leaves ∙ same ∙ r.shows in
     let new = c.parse_global_level.new.state in
-    let script : Script = (c.in_ok-functions.field-0-0, c.in_ok-functions.functions) in
+    let script : Answer = (c.in_ok-functions.field-0-0, c.in_ok-functions.functions) in
     names_read _ _ (library_of c.args.state.now.lib.now.entries) _ _ _ script new.stack (map rc_str_bytes new.imports.items) c.in_ok-names_of.field-0
     (subst (λ settings. ReadsScript (starts_in c.args.engine.now c.args.state.now settings) (live_in c.args.state.now)
     (library_of c.args.state.now.lib.now.entries) (library_of new.lib.now.entries) (cursor_of c.args.state.now.input.now) (cursor_of new.input.now)

@@ -2,7 +2,7 @@
 use Rattle.std.proofs.Common.{◌≡◌, ◌++◌, drop, map}
 use Rattle.std.specs.Rc.{rc_str_bytes}
 use Rattle.rhai_grammar.specs.Functions.{parameters_live}
-use Rattle.rhai_base.specs.Frames.{SamePlace}
+use Rattle.rhai_base.specs.Frames.{SameSurroundings}
 use Rattle.rhai_parser.proofs.parameters.declare_parameters.Given as goal
 
 abbrev pub invariant-loop-name : goal.invariant-loop-name
@@ -11,5 +11,5 @@ invariant-loop-name l = record {
       ≡ (parameters_live (map rc_str_bytes l.names)).slots;
   block : l.frame.live.block ≡ (parameters_live (map rc_str_bytes l.names)).block;
   imports : l.frame.live.imports ≡ (parameters_live (map rc_str_bytes l.names)).imports;
-  place : SamePlace l.fn.frame l.frame;
+  place : SameSurroundings l.fn.frame l.frame;
 }

@@ -4,7 +4,7 @@ use Rattle.rhai_grammar.specs.Cursors.{left}
 use Rattle.rhai_reading.specs.Reading.{Parameters}
 use Rattle.rhai_reading.specs.Running.{result_of}
 use Rattle.rhai_parser.specs.Readers.{GoesOn, state_of}
-use Rattle.rhai_parser.specs.Rooms.{Steady}
+use Rattle.rhai_parser.specs.Heights.{Steady}
 use Rattle.rhai_parser.proofs.parameters.next_parameters.Given as goal
 
 abbrev pub invariant-loop-names : goal.invariant-loop-names

@@ -3,9 +3,8 @@ use Rattle.std.proofs.Common.{◌≡◌, ◌∙◌, [], Err, map, refl, rules, s
 use Rattle.rhai_lower.specs.Entries.{ask_of}
 use Rattle.rhai_lower.specs.Streams.{stream_of}
 use Rattle.rhai_grammar.specs.Causes.{no_memory}
-use Rattle.rhai_grammar.specs.Promises.{scripts}
-use Rattle.rhai_grammar.proofs.PlaceLemmas.{refusals_stand_at_tokens}
-use Rattle.rhai_grammar.specs.Trees.{statement_trees}
+use Rattle.rhai_reading.specs.Reading.{Script}
+use Rattle.rhai_productions.proofs.Positions.{refusals_stand_at_tokens}
 use Rattle.rhai_parser.specs.Engines.{script_settings}
 use Rattle.rhai_parser.specs.Scripts.{IsMadeOf}
 use Rattle.rhai_script.specs.Deliveries.{IsStreamOf}
@@ -49,9 +48,9 @@ returns-clause-reads g c =
     (map ask_of tokens.entries.items) tokens.end) [] c.args.constants new refl) in
     a_script (g.O.Optimizer.makes c.args.optimizer.now) c.args.engine.now c.args.constants c.args.level c.args.limits
     c.args.text.now c.parse_with.result _
-    (text_parsed scripts (λ after k w fs script. IsMadeOf (g.O.Optimizer.makes c.args.optimizer.now) k c.args.level
-    (statement_trees fs w) after script)
-    refusals_stand_at_tokens.script_named c.args.engine.now (script_settings c.args.engine.now)
+    (text_parsed Script (λ after k context live f script. IsMadeOf (g.O.Optimizer.makes c.args.optimizer.now) k c.args.level
+    f.0.0 after script)
+    (λ context live. (refusals_stand_at_tokens.script context live).named) c.args.engine.now (script_settings c.args.engine.now)
     (script_settings c.args.engine.now) state c.args.constants c.args.limits c.args.text.now c.parse_with.result
     tokens _ _ given.reads refl new read c.parse_with.ensures.memory)
     (stays_orderly c.args.engine.now state (stream_of

@@ -2,7 +2,7 @@ use Rattle.std.proofs.Common.{◌≡◌, ◌+◌, ◌∙◌, ap, arith, subst, s
 use Rattle.rhai_tokenizer.specs.Turns.{IsIn, place_in}
 use Rattle.rhai_tokenizer.proofs.BlankLemmas.{blanks_end, blanks_step, lone_blank}
 use Rattle.rhai_tokenizer.proofs.CommentLemmas.{room}
-use Rattle.rhai_tokenizer.proofs.PlaceLemmas.{past_more}
+use Rattle.rhai_tokenizer.proofs.PositionLemmas.{past_more}
 use Rattle.rhai_tokenizer.proofs.blanks.blanks_in.Goals as goal
 
 pub returns-then-begins_with_lone_blank-clause-value : goal.returns-then-begins_with_lone_blank-clause-value

@@ -1,7 +1,7 @@
 use Rattle.std.proofs.Common.{ap, subst, sym, take, ◌∙◌}
 use Rattle.rhai_tokenizer.specs.Places.{past}
 use Rattle.rhai_tokenizer.specs.Turns.{IsPlace, place_in}
-use Rattle.rhai_tokenizer.proofs.PlaceLemmas.{in_place, past_place}
+use Rattle.rhai_tokenizer.proofs.PositionLemmas.{in_place, past_place}
 use Rattle.rhai_tokenizer.proofs.blanks.far_blank_in.Goals as goal
 
 pub line_of-requires-clause-place : goal.line_of-requires-clause-place

@@ -2,7 +2,7 @@ use Rattle.std.proofs.Common.{arith, subst, sym}
 use Rattle.rhai_tokenizer.specs.Cutting.{front_at}
 use Rattle.rhai_tokenizer.specs.Pieces.{letters}
 use Rattle.rhai_tokenizer.specs.Turns.{IsPlace, before_of, place_of}
-use Rattle.rhai_tokenizer.proofs.PlaceLemmas.{in_place, past_place}
+use Rattle.rhai_tokenizer.proofs.PositionLemmas.{in_place, past_place}
 use Rattle.rhai_tokenizer.proofs.TurnLemmas.{turn_boundary}
 use Rattle.rhai_tokenizer.proofs.reading.add.Goals as goal
 

@@ -1,7 +1,7 @@
 use Rattle.std.proofs.Common.{◌≡◌, ◌∙◌, ◌≤◌, None, ap, arith, false, length, rules, subst, sym, true}
 use Rattle.rhai_lower.specs.View.{case_views, view}
 use Rattle.rhai_trees.specs.CaseKeys.{IsKey, parts_key, with_digest}
-use Rattle.rhai_trees.specs.Switches.{case_place}
+use Rattle.rhai_trees.specs.Switches.{case_number}
 use Rattle.rhai_trees.proofs.CaseIndexLemmas.{count_cases}
 use Rattle.rhai_trees.proofs.DigestLemmas.{digest_count}
 use Rattle.rhai_trees.proofs.CaseSearchLemmas.{new_here, none_here, some_here}
@@ -12,7 +12,7 @@ returns-in_default c =
     let cases = case_views c.args.cases.now in
     let x = view c.args.value.now in
     let number = c.loop-number.number in
-    subst (λ k. (case_place cases x ≡ None) × IsKey cases x k) (sym c.parts_key.ensures)
+    subst (λ k. (case_number cases x ≡ None) × IsKey cases x k) (sym c.parts_key.ensures)
     (new_here cases x c.args.digest number c.requires.parts c.requires.digest c.loop-number.invariant.rest c.loop-number.invariant.enough (none_here cases c.args.digest number c.in_default.ensures.place))
 
 pub returns-then-same : goal.returns-then-same
@@ -35,5 +35,5 @@ returns c =
     let all = count_cases c.args.cases.now in
     let many : length (with_digest c.args.digest 0 cases) ≤ number = omega (arith, at_most, all, c.loop-number-test.false) in
     let end : number ≡ length c.args.cases.now = omega (arith, few, at_most, all, c.loop-number-test.false) in
-    subst (λ k. (case_place cases x ≡ None) × IsKey cases x k) (ap (parts_key c.args.digest) end ∙ sym c.parts_key-2.ensures)
+    subst (λ k. (case_number cases x ≡ None) × IsKey cases x k) (ap (parts_key c.args.digest) end ∙ sym c.parts_key-2.ensures)
     (new_here cases x c.args.digest number c.requires.parts c.requires.digest c.loop-number.invariant.rest few many)

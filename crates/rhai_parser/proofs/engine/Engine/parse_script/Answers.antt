@@ -12,7 +12,7 @@ use Rattle.rhai_parser.specs.Frames.{context_of}
 use Rattle.rhai_parser.specs.Readers.{nesting_of}
 use Rattle.rhai_parser.proofs.NestLemmas.{if_ok, nests_written, seen_of}
 use Rattle.rhai_parser.proofs.PromiseLemmas.{Entries, begins_read, begins_same, script_done, script_fails, has_read_done, has_read_fails, reads_none}
-use Rattle.rhai_reading.proofs.Main.{script_entry}
+use Rattle.rhai_productions.proofs.Main.{script_entry}
 use Rattle.rhai_parser.proofs.engine.Engine.parse_script.Goals as goal
 
 pub returns-in_err-library-clause-reads : goal.returns-in_err-library-clause-reads

@@ -8,7 +8,7 @@ use Rattle.rhai_parser.specs.Frames.{context_of, live_of}
 use Rattle.rhai_reading.specs.Reading.{Whole}
 use Rattle.rhai_reading.specs.Running.{Done, Progress, Refused, result_of}
 use Rattle.rhai_parser.proofs.PromiseLemmas.{Entries, begins_read, begins_same, expression_done, expression_fails, has_read_done, has_read_fails}
-use Rattle.rhai_reading.proofs.Main.{expression_entry}
+use Rattle.rhai_productions.proofs.Main.{expression_entry}
 use Rattle.rhai_parser.proofs.engine.Engine.read_script.Goals as goal
 
 pub returns-in-Ok-clause-reads : goal.returns-in-Ok-clause-reads

@@ -4,7 +4,7 @@ use Rattle.rhai_grammar.specs.Cursors.{left}
 use Rattle.rhai_reading.specs.Reading.{Comments}
 use Rattle.rhai_reading.specs.Running.{result_of}
 use Rattle.rhai_parser.specs.Readers.{GoesOn, comments_view, state_of}
-use Rattle.rhai_parser.specs.Rooms.{Steady}
+use Rattle.rhai_parser.specs.Heights.{Steady}
 use Rattle.rhai_parser.proofs.function.head.next_comments.Given as goal
 
 abbrev pub invariant-loop-comments : goal.invariant-loop-comments

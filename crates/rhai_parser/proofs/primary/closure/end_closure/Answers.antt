@@ -14,8 +14,8 @@ use Rattle.rhai_parser.specs.Frames.{context_of, live_of}
 use Rattle.rhai_parser.specs.Readers.{names_of, state_of}
 use Rattle.rhai_reading.specs.Reading.{Know, captured_on, closure_added}
 use Rattle.rhai_reading.specs.Running.{Done, Refused, adding, exec}
-use Rattle.rhai_parser.specs.Rooms.{Holds}
-use Rattle.rhai_parser.proofs.Rooms.{closure_ends}
+use Rattle.rhai_parser.specs.Heights.{Holds}
+use Rattle.rhai_parser.proofs.Heights.{closure_ends}
 use Rattle.rhai_parser.proofs.ClosureLemmas.{added, not_added}
 use Rattle.rhai_parser.proofs.primary.closure.end_closure.Goals as goal
 

@@ -5,7 +5,7 @@ use Rattle.rhai_base.specs.Uses.{uses_of}
 use Rattle.rhai_parser.specs.Frames.{context_of, live_of}
 use Rattle.rhai_parser.specs.Engines.{EngineValue}
 use Rattle.rhai_parser.specs.Readers.{GoesOn, state_of}
-use Rattle.rhai_parser.specs.Rooms.{Steady}
+use Rattle.rhai_parser.specs.Heights.{Steady}
 use Rattle.rhai_reading.specs.Reading.{Prog, captured_on}
 use Rattle.rhai_reading.specs.Running.{Caller, exec}
 use Rattle.rhai_parser.proofs.primary.closure.use_captured.Given as goal

@@ -6,7 +6,7 @@ use Rattle.rhai_reading.specs.Running.{result_of}
 use Rattle.rhai_trees.specs.Chains.{chain_view, indexed_by}
 use Rattle.rhai_parser.specs.Frames.{context_of, live_of}
 use Rattle.rhai_parser.specs.Readers.{GoesOn, links, state_of}
-use Rattle.rhai_parser.specs.Rooms.{Stays}
+use Rattle.rhai_parser.specs.Heights.{Stays}
 use Rattle.rhai_parser.specs.ExprViews.{linked}
 use Rattle.rhai_parser.proofs.reader.Reader.parse_all_links.Given as goal
 

@@ -4,7 +4,7 @@ use Rattle.rhai_grammar.specs.Switches.{nothing_collected}
 use Rattle.rhai_trees.specs.Arms.{Indexed, arms_view}
 use Rattle.rhai_reading.specs.Running.{result_of}
 use Rattle.rhai_parser.specs.Readers.{GoesOn, arms, state_of}
-use Rattle.rhai_parser.specs.Rooms.{Stays}
+use Rattle.rhai_parser.specs.Heights.{Stays}
 use Rattle.rhai_parser.proofs.reader.Reader.parse_arms.Given as goal
 
 abbrev pub invariant-loop-arms : goal.invariant-loop-arms

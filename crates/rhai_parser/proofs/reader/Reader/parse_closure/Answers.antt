@@ -5,7 +5,7 @@ use Rattle.rhai_trees.specs.Chains.{chain_view}
 use Rattle.rhai_base.specs.Uses.{uses_of}
 use Rattle.rhai_base.specs.Libraries.{library_of}
 use Rattle.rhai_parser.specs.Frames.{context_of, live_of}
-use Rattle.rhai_parser.proofs.Rooms.{given_up, no_function, one_begun}
+use Rattle.rhai_parser.proofs.Heights.{given_up, no_function, one_begun}
 use Rattle.rhai_parser.specs.Readers.{names_of, state_of}
 use Rattle.rhai_reading.specs.Reading.{Closure}
 use Rattle.rhai_reading.specs.Running.{entering, guarded, with_captured}

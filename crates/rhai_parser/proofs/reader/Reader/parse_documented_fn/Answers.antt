@@ -6,7 +6,7 @@ use Rattle.rhai_base.specs.Comments.{comment_of, comments_of}
 use Rattle.rhai_parser.specs.Frames.{context_of, live_of}
 use Rattle.rhai_parser.specs.Readers.{state_at, state_of, with_live}
 use Rattle.rhai_parser.proofs.Given.{gives_so}
-use Rattle.rhai_parser.proofs.Rooms.{room_same}
+use Rattle.rhai_parser.proofs.Heights.{room_same}
 use Rattle.rhai_parser.proofs.CommentLemmas.{Documented, function_follows}
 use Rattle.rhai_parser.proofs.reader.Reader.parse_documented_fn.Goals as goal
 

@@ -8,7 +8,7 @@ use Rattle.rhai_reading.specs.Reading.{FunctionStatement}
 use Rattle.rhai_reading.specs.Running.{guarded}
 use Rattle.rhai_reading.proofs.Steps.{nested_done, nested_gives}
 use Rattle.rhai_base.specs.Libraries.{library_of}
-use Rattle.rhai_parser.proofs.Rooms.{given_up, one_begun}
+use Rattle.rhai_parser.proofs.Heights.{given_up, one_begun}
 use Rattle.rhai_parser.proofs.StmtReaders as rule
 use Rattle.rhai_parser.proofs.FunctionLemmas.{Begun, context_inside, function_fails, function_gives}
 use Rattle.rhai_parser.proofs.reader.Reader.parse_fn.Goals as goal

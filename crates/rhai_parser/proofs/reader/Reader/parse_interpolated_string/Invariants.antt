@@ -5,7 +5,7 @@ use Rattle.rhai_grammar.specs.Interpolations.{added_text}
 use Rattle.std.specs.Rc.{rc_str_bytes}
 use Rattle.rhai_reading.specs.Running.{result_of}
 use Rattle.rhai_parser.specs.Readers.{GoesOn, segments, state_of, views_of}
-use Rattle.rhai_parser.specs.Rooms.{Stays}
+use Rattle.rhai_parser.specs.Heights.{Stays}
 use Rattle.rhai_parser.proofs.reader.Reader.parse_interpolated_string.Given as goal
 
 abbrev pub invariant-loop-segments : goal.invariant-loop-segments

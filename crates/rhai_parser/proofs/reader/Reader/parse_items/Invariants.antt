@@ -3,7 +3,7 @@ use Rattle.rhai_lower.specs.Nodes.{no_nodes}
 use Rattle.rhai_grammar.specs.Cursors.{left}
 use Rattle.rhai_reading.specs.Running.{result_of}
 use Rattle.rhai_parser.specs.Readers.{GoesOn, items, state_of, views_of}
-use Rattle.rhai_parser.specs.Rooms.{Stays}
+use Rattle.rhai_parser.specs.Heights.{Stays}
 use Rattle.rhai_parser.proofs.reader.Reader.parse_items.Given as goal
 
 abbrev pub invariant-loop-items : goal.invariant-loop-items

@@ -5,7 +5,7 @@ use Rattle.rhai_grammar.specs.Settings.{Settings}
 use Rattle.rhai_parser.specs.Frames.{context_of, live_of}
 use Rattle.rhai_parser.specs.Readers.{state_at, state_of, statement, with_live}
 use Rattle.rhai_parser.proofs.Given.{gives_so}
-use Rattle.rhai_parser.proofs.Rooms.{room_same}
+use Rattle.rhai_parser.proofs.Heights.{room_same}
 use Rattle.rhai_parser.proofs.CommentLemmas.{function_starts}
 use Rattle.rhai_parser.proofs.reader.Reader.parse_keyword_stmt.Goals as goal
 

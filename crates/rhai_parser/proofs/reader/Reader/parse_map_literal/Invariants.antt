@@ -4,7 +4,7 @@ use Rattle.rhai_lower.specs.View.{property_views}
 use Rattle.rhai_grammar.specs.Cursors.{left}
 use Rattle.rhai_reading.specs.Running.{result_of}
 use Rattle.rhai_parser.specs.Readers.{GoesOn, fields, state_of}
-use Rattle.rhai_parser.specs.Rooms.{Stays}
+use Rattle.rhai_parser.specs.Heights.{Stays}
 use Rattle.rhai_parser.proofs.reader.Reader.parse_map_literal.Given as goal
 
 abbrev pub invariant-loop-properties : goal.invariant-loop-properties

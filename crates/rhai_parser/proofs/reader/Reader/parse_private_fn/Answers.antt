@@ -9,7 +9,7 @@ use Rattle.rhai_reading.specs.Running.{exec, guarded, nested, result_of}
 use Rattle.std.proofs.lemmas.Result.{err_from_is_err_and}
 use Rattle.rhai_parser.proofs.Given.{gives_so}
 use Rattle.rhai_reading.proofs.Steps.{nested_gives}
-use Rattle.rhai_parser.proofs.Rooms.{room_same}
+use Rattle.rhai_parser.proofs.Heights.{room_same}
 use Rattle.rhai_parser.proofs.StmtReaders as rule
 use Rattle.rhai_parser.proofs.reader.Reader.parse_private_fn.Goals as goal
 

@@ -4,9 +4,9 @@ use Rattle.rhai_lower.specs.Nodes.{position_of}
 use Rattle.rhai_trees.specs.Chains.{chain_view}
 use Rattle.rhai_grammar.specs.Cursors.{left}
 use Rattle.rhai_grammar.specs.Delivered.{is_end, is_memory}
-use Rattle.rhai_reading.specs.Running.{asked, result_of}
+use Rattle.rhai_reading.specs.Running.{next_item, result_of}
 use Rattle.rhai_parser.specs.Readers.{GoesOn, binary_op, state_of}
-use Rattle.rhai_parser.specs.Rooms.{Stays}
+use Rattle.rhai_parser.specs.Heights.{Stays}
 use Rattle.rhai_parser.specs.Runs.{NextIs}
 use Rattle.rhai_parser.proofs.RunLemmas.{Awaits}
 use Rattle.rhai_parser.proofs.reader.Reader.parse_run.Given as goal
@@ -17,8 +17,8 @@ invariant-loop-operator g l = record {
       (result_of (binary_op l.fn.self.engine.now l.fn.frame l.fn.settings (position_of (chain_view l.fn.lhs)) l.fn.parent (chain_view l.fn.lhs)) (state_of l.fn.shared))
       (result_of (binary_op l.self.engine.now l.frame l.run.settings l.run.settings.pos l.run.parent (chain_view l.run.lhs)) (state_of l.shared));
   next : NextIs l.frame.filter l.next (state_of l.shared);
-  readable : is_memory (asked (state_of l.shared)).lexeme ≡ false;
-  more : IsSome l.next → is_end (asked (state_of l.shared)).lexeme ≡ false;
+  readable : is_memory (next_item (state_of l.shared)).lexeme ≡ false;
+  more : IsSome l.next → is_end (next_item (state_of l.shared)).lexeme ≡ false;
   goes_on : GoesOn l.fn.shared l.shared;
   stays : Stays l.self.engine.now l.frame l.fn.settings 5 l.fn.shared l.shared;
   limit : l.run.settings.max_expr_depth ≡ l.fn.settings.max_expr_depth;

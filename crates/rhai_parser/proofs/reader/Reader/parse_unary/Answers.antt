@@ -2,7 +2,7 @@ use Rattle.std.proofs.Common.{◌≡◌, ◌∙◌, Err, Ok, ap, arith, refl, sy
 use Rattle.rhai_trees.specs.Chains.{chain_view}
 use Rattle.rhai_grammar.specs.Beginnings.{beginning}
 use Rattle.rhai_reading.specs.Reading.{Primary}
-use Rattle.rhai_reading.specs.Running.{asked, entering, looking, nested, result_of}
+use Rattle.rhai_reading.specs.Running.{next_item, entering, after_peek, nested, result_of}
 use Rattle.rhai_reading.specs.Running as R
 use Rattle.rhai_reading.proofs.Steps.{looked, nested_done}
 use Rattle.rhai_parser.proofs.Given.{gives_so}
@@ -30,9 +30,9 @@ returns-clause-reads g c =
     let t = state_of c.leave.new.self in
     let context = context_of c.args.self.now.engine.now c.args.frame.now c.args.settings in
     let live = live_of c.args.frame.now in
-    let entered : state_of c.enter.new.self ≡ entering (looking s) = grind arith in
+    let entered : state_of c.enter.new.self ≡ entering (after_peek s) = grind arith in
     gives_so chain_view c.parse_ends.result (state_of c.parse_ends.new.shared)
-    (operand_begun context live (chain_view c.from_value-operand.result) s t (grind arith) (value_unsigned (beginning (asked s).lexeme) (grind arith))
-    (nested_done (result_of (Primary context live)) (looking s) entered (c.in_ok-value.ensures.reads context live) c.leave.ensures.leaves
+    (operand_begun context live (chain_view c.from_value-operand.result) s t (grind arith) (value_unsigned (beginning (next_item s).lexeme) (grind arith))
+    (nested_done (result_of (Primary context live)) (after_peek s) entered (c.in_ok-value.ensures.reads context live) c.leave.ensures.leaves
     ∙ ap (λ x. R.Done x t) (sym c.from_value-operand.ensures)))
     (c.parse_ends.ensures.reads s (grind arith))

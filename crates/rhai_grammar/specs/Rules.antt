@@ -1,0 +1,103 @@
+-- The productions: for each goal what is written there, with the tree that it has.
+use Rattle.std.specs.Prelude.{refl}
+use Rattle.rhai_lower.specs.Lexemes.{text_of}
+use Rattle.rhai_grammar.specs.Definitions.{exported}
+use Rattle.rhai_grammar.specs.Contexts.{has_single_blocks, in_block, in_case}
+use Rattle.rhai_grammar.specs.Interpolations.{is_last_text}
+use Rattle.rhai_grammar.specs.Functions.{may_begin}
+use Rattle.rhai_grammar.specs.Trees.{node_count}
+use Rattle.rhai_grammar.specs.Modules.{qualified}
+use Rattle.rhai_grammar.specs.Causes.{refusal}
+use Rattle.rhai_grammar.specs.Goals.{Goal, Val}
+use Rattle.rhai_grammar.specs.Productions.{Production, choose, give, in_text, knows, literal, name, part}
+use Rattle.rhai_grammar.specs.Causes as cause
+use Rattle.rhai_grammar.specs.declared.list.CommaList.TheVariants as lists
+use Rattle.rhai_grammar.specs.Goals as goal
+use Rattle.rhai_grammar.specs.Views as view
+pub use Rattle.rhai_grammar.specs.RulesOfLists.{parted, items_of, arguments_of, element_by, key_by, field_by}
+pub use Rattle.rhai_grammar.specs.RulesOfCalls.{listed, bang_fault, bang_by, called_by, path_next, path_of, call_of}
+pub use Rattle.rhai_grammar.specs.RulesOfCalls.{postfix_of, property_of, member_of, index_of, dotted_by, links_by}
+pub use Rattle.rhai_grammar.specs.RulesOfOperands.{word_of, primary_by, operand_by, right_by, follower_by}
+pub use Rattle.rhai_grammar.specs.RulesOfOperands.{binary_on, binary_of, expression_of, whole, segments_of}
+pub use Rattle.rhai_grammar.specs.RulesOfConstructs.{block_start, block_end, inside_by, block_of, braced, guard}
+pub use Rattle.rhai_grammar.specs.RulesOfConstructs.{iterated, conditional, branch, catch_name, do_end_by}
+pub use Rattle.rhai_grammar.specs.RulesOfConstructs.{loop_names, construct}
+pub use Rattle.rhai_grammar.specs.RulesOfStatements.{var_name, initializer, definition, jump_of, evaluated, alias}
+pub use Rattle.rhai_grammar.specs.RulesOfStatements.{import_of, export_by, private_of, documented_by, loops}
+pub use Rattle.rhai_grammar.specs.RulesOfStatements.{statement_by, separated, after_one, statements}
+pub use Rattle.rhai_grammar.specs.RulesOfSwitches.{cases_of, case_guard, action_by, arm_end_by, arm_of}
+pub use Rattle.rhai_grammar.specs.RulesOfSwitches.{default_end_by, default_arm, arms_by}
+pub use Rattle.rhai_grammar.specs.RulesOfFunctions.{comments_of, named_head, function_head, parameters_by}
+pub use Rattle.rhai_grammar.specs.RulesOfFunctions.{parameter_by, function_body, function, function_statement}
+pub use Rattle.rhai_grammar.specs.RulesOfFunctions.{captured, closure_of, closure_by, closure_body}
+pub use Rattle.rhai_grammar.specs.Productions.{tested}
+
+-- what is written where a goal is read
+abbrev pub production : (g : Goal) → Production (Val g)
+production (goal.Whole context live) = whole context live
+production (goal.Expression context live) = expression_of context live
+production (goal.Operand context live) = choose view.Begins (operand_by context live)
+production (goal.RightOperand context live place) = choose (view.OperandAt place) (right_by context live)
+production (goal.Primary context live) = choose view.Begins (primary_by context live)
+production (goal.Called context live name qualified) = choose view.Calls (called_by context live name qualified)
+production (goal.Path live x) = path_of live x
+production (goal.Links live spot) = choose view.Links (links_by live spot)
+production (goal.Index context live indexed) = index_of context live indexed
+production (goal.Member context live) = member_of context live
+production (goal.Postfix context live x) = postfix_of context live x
+production (goal.Arguments context live at) = arguments_of context live at
+production (goal.Items context live before) = items_of context live before
+production (goal.Elements context live opening before) = choose (view.ItemAt context.sizes.array (node_count before))
+    (element_by context live opening before)
+production (goal.Fields context live opening before) = part (goal.NextKey context before)
+    (field_by context live opening before)
+production (goal.Segments context live start before) = segments_of context live start before
+production goal.TextAfter = in_text (λ end token at. give (end, text_of token, is_last_text token, at))
+production (goal.Jump context live at) = jump_of context live at
+production (goal.NextKey context before) = choose (view.KeyAt context.settings before) (key_by context before)
+production (goal.NextOperator filter) = choose (view.FollowerIn filter) follower_by
+production (goal.BinaryOp context live at parent lhs) = part (goal.NextOperator context.filter)
+    (binary_of context live at parent lhs)
+production (goal.ExprStatement context live) = evaluated context live
+production (goal.VarName context live) = var_name context live
+production (goal.Initializer context live at) = initializer context live at
+production (goal.Definition context live at constant exported) = definition context live at constant exported
+production (goal.Import context live at) = import_of context live at
+production (goal.Export context live at) = choose view.Defined (export_by context live at)
+production goal.Alias = alias
+production (goal.Statement context live) = choose (view.StartOf context) (statement_by context live)
+production (goal.Statements closing context live before) = choose (view.PlaceIn closing)
+    (statements closing context live before)
+production goal.BlockStart = block_start
+production (goal.Inside context live) = inside_by context live (has_single_blocks context)
+production (goal.Block context live at) = block_of context live at
+production (goal.BlockEnd at fs) = block_end at fs
+production (goal.Construct context live at kind) = construct context live at kind
+production (goal.Braced context live at) = braced context live at
+production (goal.Guard context live) = guard context live
+production (goal.Iterated context live) = iterated context live
+production (goal.Conditional context live at) = conditional context live at
+production (goal.Branch context live at) = branch context live at
+production goal.LoopNames = loop_names
+production goal.Catch = catch_name
+production goal.DoEnd = choose view.EndOfDo do_end_by
+production (goal.Arms context live before) = choose view.ArmAt (arms_by context live before)
+production (goal.Arm context live before) = arm_of context live before
+production (goal.DefaultArm context live default) = default_arm context live default
+production (goal.Cases context live before) = cases_of context live before
+production (goal.Case context live) = literal (goal.Expression (in_case context) (in_block live)) refl give
+production (goal.CaseGuard context live) = case_guard context live
+production (goal.Action context live) = action_by context live (has_single_blocks context)
+production (goal.ArmEnd itself) = choose (view.PartOf lists.Arms) (arm_end_by itself)
+production (goal.DefaultEnd default) = choose view.ArmAt (default_end_by default)
+production (goal.Comments before) = comments_of before
+production (goal.FunctionStatement context live comments first at is_private) =
+    function_statement context live comments first at is_private
+production (goal.Function context comments at is_private) = function context comments at is_private
+production goal.FunctionHead = function_head
+production (goal.ParameterList function) = choose view.Calls (parameters_by function)
+production (goal.Parameters parts function before) = choose (view.ParameterAt parts)
+    (parameter_by parts function before)
+production (goal.Closure context live at by) = knows (may_begin context) (refusal cause.TooManyFunctions at)
+    (closure_by context live at by)
+production (goal.ClosureBody context live) = closure_body context live

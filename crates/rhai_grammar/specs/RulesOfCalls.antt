@@ -1,0 +1,97 @@
+-- Productions of calls, paths and chains.
+use Rattle.std.specs.Prelude.{Bool, List, Option, codes, false, true, ◌&&◌, if◌then◌else◌}
+use Rattle.rhai_lower.specs.Lexemes.{Lexeme, text_of}
+use Rattle.rhai_lower.specs.Nodes.{Node, Nodes, no_nodes, position_of, property}
+use Rattle.rhai_lower.specs.declared.position.Position.{Position}
+use Rattle.rhai_grammar.specs.Beginnings.{is_list, AMember, MemberRole, NoMember, calls, is_name, missing, qualifies}
+use Rattle.rhai_grammar.specs.Contexts.{Context, Live}
+use Rattle.rhai_grammar.specs.Chains.{Link, index_refusal, last_fault}
+use Rattle.rhai_grammar.specs.Spots.{LinkSpot, spot_after_bracket, spot_after_dot}
+use Rattle.rhai_grammar.specs.Causes.{Refusal, refusal}
+use Rattle.rhai_grammar.specs.Trees.{bracket_link, call_tree, is_variable, member_link, method_tree}
+use Rattle.rhai_grammar.specs.Modules.{is_qualified, module_fault, qualified}
+use Rattle.rhai_grammar.specs.Verdicts.{no_path}
+use Rattle.rhai_grammar.specs.declared.role.Calling.{Calling}
+use Rattle.rhai_grammar.specs.declared.role.Linking.{Linking}
+use Rattle.rhai_grammar.specs.Productions.{Production, choose, due, faultless, give, if_next, name, never, part, raise}
+use Rattle.rhai_grammar.specs.Productions.{stop, tested, this, unless}
+use Rattle.rhai_grammar.specs.Causes as cause
+use Rattle.rhai_grammar.specs.declared.due.DueToken.TheVariants as due_token
+use Rattle.rhai_grammar.specs.declared.role.Calling.TheVariants as calls_by
+use Rattle.rhai_grammar.specs.declared.role.Linking.TheVariants as link
+use Rattle.rhai_grammar.specs.Goals as goal
+use Rattle.rhai_grammar.specs.Views as view
+
+-- arguments in parentheses, after a name at this position
+abbrev pub listed : Context → Live → Position → Bool → Production (Bool × Nodes)
+listed context live name bang = this (λ _ at. part (goal.Arguments context live name) (λ ns. give (bang, ns)))
+
+-- The `!` after a path is refused, in one way where a list follows and in another where none does.
+abbrev pub bang_fault : Bool → Position → Refusal
+bang_fault listed bang = refusal (cause.BadInput (if listed then cause.UnexpectedInput (codes "!")
+    else cause.ImproperSymbol (codes "!"))) bang
+
+-- what follows a `!` after a name: an empty pair, or a list of arguments
+abbrev pub bang_by : Context → Live → Position → Calling → Production (Bool × Nodes)
+bang_by context live name calls_by.Pair = this (λ _ at. give (true, no_nodes))
+bang_by context live name calls_by.List = listed context live name true
+bang_by context live name _ = never (missing (codes "("))
+
+-- what calls a name: an empty pair, a list of arguments, or either after a `!`; or nothing
+--     arguments = "()" | "(" [ list(expression) ] ")"
+abbrev pub called_by : Context → Live → Position → Bool → Calling → Production (Bool × Nodes)
+called_by context live name qualified calls_by.Pair = this (λ _ at. give (false, no_nodes))
+called_by context live name qualified calls_by.List = listed context live name false
+called_by context live name qualified calls_by.Nothing = give (false, no_nodes)
+called_by context live name qualified calls_by.Bang = this (λ _ at. choose view.Calls (λ v.
+    unless qualified (bang_fault (is_list v) at) (bang_by context live name v)))
+
+-- more of a path, as long as a `::` follows
+abbrev pub path_next : Live → Node → Production Node
+path_next live x = if_next qualifies (part (goal.Path live x) give) (give x)
+
+-- a `::`, and the name after it
+abbrev pub path_of : Live → Node → Production Node
+path_of live x = this (λ _ at. name (λ n pos. path_next live (qualified live.imports x n pos)))
+
+-- What calls a variable, if something does. Then its module has to be known.
+abbrev pub call_of : Context → Live → Node → Production Node
+call_of context live x = if_next (λ token. is_variable x && calls token) (part (goal.Called context live
+    (position_of x) (is_qualified x)) (λ call. tested (call_tree x call.0 call.1) (module_fault context live x)))
+    (give x)
+
+-- the path and the call of an operand that is a variable
+abbrev pub postfix_of : Context → Live → Node → Production Node
+postfix_of context live x = if_next (λ token. is_variable x && qualifies token) (part (goal.Path live x)
+    (call_of context live)) (call_of context live x)
+
+-- a property by its name, which is no path
+abbrev pub property_of : Lexeme → Position → Production Node
+property_of name at = if is_name name then if_next qualifies (never (λ _. no_path)) (give (property (text_of name) at))
+    else stop (refusal (cause.Reserved (text_of name)) at)
+
+-- a method with its arguments, or a property
+abbrev pub member_of : Context → Live → Production Node
+member_of context live = this (λ name at. if_next calls (part (goal.Called context live at false) (λ call.
+    give (method_tree (text_of name) at call.0 call.1))) (property_of name at))
+
+-- an index and the `]`; that it may index what is before it is tested in between
+abbrev pub index_of : Context → Live → Option Node → Production Node
+index_of context live indexed = part (goal.Expression context live) (λ x. faultless (index_refusal indexed x)
+    (due due_token.RightBracket (give x)))
+
+-- a member after a dot, one level deeper, and the links after it
+abbrev pub dotted_by : Live → LinkSpot → Lexeme → Position → MemberRole → Production (List Link)
+dotted_by live spot token at AMember = raise spot.settings at (λ deeper. part (goal.Member deeper live) (λ x.
+    part (goal.Links live (spot_after_dot spot (member_link token at x))) give))
+dotted_by live spot token at (NoMember why) = never (λ m. why)
+
+-- a bracket with its index, two levels deeper, or a dot with its member, and the links after it; or no link, where all
+-- links are tested
+--     link = ( "[" | "?[" ) expression "]" | ( "." | "?." ) ( NAME [ arguments ] | WORD arguments )
+abbrev pub links_by : Live → LinkSpot → Linking → Production (List Link)
+links_by live spot link.Bracket = this (λ token at. raise spot.brackets at (λ deeper. raise deeper at (λ inside.
+    part (goal.Index inside live spot.indexed) (λ x. part (goal.Links live (spot_after_bracket spot
+    (bracket_link token at x))) give))))
+links_by live spot link.Dot = this (λ token at. choose view.MemberAt (dotted_by live spot token at))
+links_by live spot link.Nothing = tested spot.before (last_fault spot.before)

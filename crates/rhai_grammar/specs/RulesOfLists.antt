@@ -1,0 +1,69 @@
+-- Productions of lists with commas: arguments, and the items of arrays and object maps.
+use Rattle.std.specs.Prelude.{None, Option, Some, codes}
+use Rattle.rhai_lower.specs.Nodes.{Nodes, Properties, no_nodes, with_node, with_property}
+use Rattle.rhai_lower.specs.declared.position.Position.{Position}
+use Rattle.rhai_lower.specs.Texts.{Text}
+use Rattle.rhai_grammar.specs.Literals.{no_item, too_many_fields, AKey, FieldsEnd, KeyRole, NoKey, has_key}
+use Rattle.rhai_grammar.specs.Literals.{property_count}
+use Rattle.rhai_grammar.specs.Contexts.{Context, Live, full}
+use Rattle.rhai_grammar.specs.CommaLists.{after_part, is_close, no_argument, not_after}
+use Rattle.rhai_grammar.specs.Beginnings.{missing}
+use Rattle.rhai_grammar.specs.Causes.{refusal}
+use Rattle.rhai_grammar.specs.declared.list.AfterPart.{AfterPart}
+use Rattle.rhai_grammar.specs.declared.list.CommaList.{CommaList}
+use Rattle.rhai_grammar.specs.declared.role.ItemRole.{ItemRole}
+use Rattle.rhai_grammar.specs.Productions.{Production, choose, due, give, if_next, name, never, part, raise, this}
+use Rattle.rhai_grammar.specs.Productions.{unless}
+use Rattle.rhai_grammar.specs.Causes as cause
+use Rattle.rhai_grammar.specs.declared.due.DueToken.TheVariants as due_token
+use Rattle.rhai_grammar.specs.declared.list.AfterPart.TheVariants as after
+use Rattle.rhai_grammar.specs.declared.list.CommaList.TheVariants as lists
+use Rattle.rhai_grammar.specs.declared.role.ItemRole.TheVariants as place
+use Rattle.rhai_grammar.specs.Goals as goal
+use Rattle.rhai_grammar.specs.Views as view
+
+-- After a part of a list: what follows after a comma, or what is given after the token that closes the list.
+abbrev pub parted : {A : Type 0} (parts : CommaList) → (on end : Production A) → AfterPart → Production A
+parted parts on end after.Comma = this (λ _ at. on)
+parted parts on end after.Close = this (λ _ at. end)
+parted parts on end after.Nothing = never (not_after parts)
+
+-- an argument, and those that follow; a comma may stand before the `)`
+abbrev pub items_of : Context → Live → Nodes → Production Nodes
+items_of context live before = part (goal.Expression context live) (λ x. choose (view.PartOf lists.Arguments)
+    (parted lists.Arguments (if_next (λ token. is_close (after_part lists.Arguments token))
+    (this (λ _ at. give (with_node before x))) (part (goal.Items context live (with_node before x)) give))
+    (give (with_node before x))))
+
+-- arguments after their `(`, one level deeper than the name that they follow
+abbrev pub arguments_of : Context → Live → Position → Production Nodes
+arguments_of context live name = if_next no_argument (never (missing (codes ")")))
+    (if_next (λ token. is_close (after_part lists.Arguments token)) (this (λ _ at. give no_nodes))
+    (raise context name (λ deeper. part (goal.Items deeper live no_nodes) give)))
+
+-- the `]` of an array, or one more item, one level deeper, and so on up to the `]`
+--     array = "[" [ list(expression) ] "]"
+abbrev pub element_by : Context → Live → Position → Nodes → ItemRole → Production Nodes
+element_by context live opening before place.End = this (λ _ at. give before)
+element_by context live opening before place.Item = raise context opening (λ deeper. part (goal.Expression deeper live)
+    (λ x. choose (view.PartOf lists.Array) (parted lists.Array (part (goal.Elements context live opening
+    (with_node before x)) give) (give (with_node before x)))))
+element_by context live opening before place.Nothing = never (no_item context.sizes.array)
+
+-- the `}` of an object map, or the name of one more property and its colon; no name stands twice
+--     key = NAME | STRING
+abbrev pub key_by : Context → Properties → KeyRole → Production (Option (Text × Position))
+key_by context before FieldsEnd = this (λ _ at. give None)
+key_by context before (AKey key) = this (λ _ at. unless (has_key key before)
+    (refusal (cause.DuplicatedProperty key) at) (due due_token.Colon (
+    if_next (λ _. full context.sizes.map (property_count before)) (never (λ _. too_many_fields context.sizes.map))
+    (give (Some (key, at))))))
+key_by context before (NoKey why) = never (λ _. why)
+
+-- the value of a property, one level deeper, and the properties after it
+--     map = "#{" [ list(key ":" expression) ] "}"
+abbrev pub field_by : Context → Live → Position → Properties → Option (Text × Position) → Production Properties
+field_by context live opening before None = give before
+field_by context live opening before (Some key) = raise context opening (λ deeper. part (goal.Expression deeper live)
+    (λ x. choose (view.PartOf lists.Map) (parted lists.Map (part (goal.Fields context live opening
+    (with_property before key.0 key.1 x)) give) (give (with_property before key.0 key.1 x)))))

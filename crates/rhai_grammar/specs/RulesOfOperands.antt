@@ -1,0 +1,130 @@
+-- Productions of operands, operators and interpolated strings.
+use Rattle.std.specs.Prelude.{Bool, None, Option, Some, ℕ, pos, ◌||◌, if◌then◌else◌, ◌&&◌}
+use Rattle.rhai_lower.specs.Nodes.{Node, Nodes, array, block_value, braces, integer, interpolated, made_block, no_nodes}
+use Rattle.rhai_lower.specs.Nodes.{no_properties, object_map, position_of, this as this_node, unit, with_node}
+use Rattle.rhai_lower.specs.declared.position.Position.{Position}
+use Rattle.rhai_lower.specs.Texts.{Text}
+use Rattle.rhai_lower.specs.Lexemes.{text_of}
+use Rattle.rhai_grammar.specs.Contexts.{Context, Live, below_global, in_block}
+use Rattle.rhai_grammar.specs.Strengths.{Follower, Operator, Other, Unknown, continues}
+use Rattle.rhai_grammar.specs.Interpolations.{added_text}
+use Rattle.rhai_grammar.specs.Operators.{boolean_holds, mismatched, operator_tree}
+use Rattle.rhai_grammar.specs.Beginnings.{calls, excludes_use, is_this, may_be_called, no_operand, unexpected, value_of}
+use Rattle.rhai_grammar.specs.Modules.{captures_use, may_use, module_fault}
+use Rattle.rhai_grammar.specs.Chains.{chained}
+use Rattle.rhai_grammar.specs.Delivered.{is_end}
+use Rattle.rhai_grammar.specs.Settings.{is_in_function}
+use Rattle.rhai_grammar.specs.Signs.{malformed, sign_holds, signed}
+use Rattle.rhai_grammar.specs.Starts.{may_be_closure, role_after}
+use Rattle.rhai_grammar.specs.Constructs.{may_be_value}
+use Rattle.rhai_grammar.specs.Trees.{name_tree, variable_of}
+use Rattle.rhai_grammar.specs.Causes.{refusal}
+use Rattle.rhai_grammar.specs.Spots.{spot_after_operand}
+use Rattle.rhai_grammar.specs.declared.role.Beginning.{Beginning}
+use Rattle.rhai_grammar.specs.declared.role.OperandStart.{OperandStart}
+use Rattle.rhai_grammar.specs.Productions.{Production, due, give, here, if_next, must, never, part, raise, stop, tested}
+use Rattle.rhai_grammar.specs.Productions.{this, uses}
+use Rattle.rhai_grammar.specs.Causes as cause
+use Rattle.rhai_grammar.specs.declared.due.DueToken.TheVariants as due_token
+use Rattle.rhai_grammar.specs.declared.role.Beginning.TheVariants as begin
+use Rattle.rhai_grammar.specs.declared.role.OperandStart.TheVariants as first
+use Rattle.rhai_grammar.specs.Goals as goal
+
+-- After a reserved word: a call, if it may be called; else it is `this`, in a function, or is refused.
+abbrev pub word_of : Context → Text → Position → Production Node
+word_of context word at = if_next (λ token. may_be_called word && calls token) (give (variable_of None word at))
+    (if is_this word then must (is_in_function context.settings)
+    (refusal (cause.BadInput (cause.ImproperSymbol word)) at) (give (this_node at))
+    else stop (refusal (cause.Reserved word) at))
+
+-- a primary, by what its first token begins
+--     ZERO =
+--     primary = value | NAME | WORD | "(" expression ")" | array | map | string
+--       | block | if | switch | while | loop | do | for | closure
+--     value = "()" | INTEGER | CHARACTER | STRING | "true" | "false"
+abbrev pub primary_by : Context → Live → Beginning → Production Node
+primary_by context live begin.Value = this (λ token at. give (value_of token at))
+primary_by context live begin.Name = this (λ token at. uses excludes_use
+    (λ fs following. excludes_use following || may_use context live fs (text_of token))
+    (refusal (cause.VariableUndefined (text_of token)) at)
+    (λ fs following. captures_use context live (text_of token) fs following) (record { name = text_of token; at = at })
+    (λ excluded. give (name_tree live.slots excluded (text_of token) at)))
+primary_by context live begin.Word = this (λ token at. word_of context (text_of token) at)
+primary_by context live begin.Group = this (λ _ at. raise context at (λ deeper. part (goal.Expression deeper live)
+    (λ x. due due_token.RightParen (give x))))
+primary_by context live begin.Array = this (λ _ at. raise context at (λ deeper.
+    part (goal.Elements deeper live at no_nodes) (λ ns. give (array ns at))))
+primary_by context live begin.Map = this (λ _ at. raise context at (λ deeper.
+    part (goal.Fields deeper live at no_properties) (λ ps. give (object_map ps at))))
+primary_by context live begin.Interpolated = this (λ token at. raise context at (λ deeper.
+    part (goal.Segments deeper live at (added_text no_nodes (text_of token) at)) (λ ns. give (interpolated ns at))))
+primary_by context live (begin.Construct kind) = if may_be_value context kind
+    then this (λ _ at. raise context at (λ deeper. raise deeper at (λ inside.
+    part (goal.Construct inside live at kind) (λ f. give (block_value (made_block f))))))
+    else never no_operand
+primary_by context live (begin.Closure by) = if may_be_closure context by
+    then this (λ _ at. part (goal.Closure context live at by) give) else never no_operand
+primary_by context live begin.Sign = never unexpected
+primary_by context live begin.Range = here (λ at. give (integer (pos 0) at))
+primary_by context live begin.Nothing = never no_operand
+
+-- A sign and its operand, one level deeper; or a primary with what follows it: a call, links, or none of these. That
+-- its module is known is tested after the last link.
+--     operand = { sign } ( ZERO | primary { "::" NAME } [ [ "!" ] arguments ] { link } )
+--     sign = "-" | "+" | "!"
+abbrev pub operand_by : Context → Live → Beginning → Production Node
+operand_by context live begin.Sign = this (λ token at. raise context at (λ deeper. part (goal.Operand deeper live)
+    (λ x. must (sign_holds token x) (malformed at x) (give (signed token at x)))))
+operand_by context live _ = part (goal.Primary context live) (λ x. part (goal.Postfix context live x) (λ y.
+    part (goal.Links live (spot_after_operand context y)) (λ ls. tested (chained y ls) (module_fault context live y))))
+
+-- what stands after an operator: nothing after a range, a jump after `??`, or an operand
+--     right = operand | jump | OMITTED
+--     OMITTED =
+abbrev pub right_by : Context → Live → OperandStart → Production Node
+right_by context live first.Omitted = here (λ at. give (unit at))
+right_by context live first.Jump = part (goal.Statement (below_global context) (in_block live)) (λ f.
+    give (block_value (made_block f.0)))
+right_by context live first.Written = part (goal.Operand context live) give
+
+-- an operator, with its strength and whether equal ones group to the right; or none
+abbrev pub follower_by : Follower → Production (Option (ℕ × Bool))
+follower_by (Operator n right) = give (Some (n, right))
+follower_by (Unknown t) = never (λ _. cause.UnknownOperator t)
+follower_by Other = give None
+
+-- An operator that goes on with a run, and its right operand with all that groups more tightly, one level deeper. Then
+-- the operands are tested, and the run goes on.
+abbrev pub binary_on : Context → Live → Position → ℕ → Node → ℕ × Bool → Production Node
+binary_on context live at parent lhs op = this (λ token pos. part (goal.RightOperand context live (role_after token))
+    (λ y. part (goal.NextOperator context.filter) (λ next. raise context at (λ deeper.
+    part (goal.BinaryOp deeper live (position_of y) op.0 y) (λ r.
+    must (boolean_holds token lhs) (mismatched lhs) (must (boolean_holds token r) (mismatched r)
+    (part (goal.BinaryOp deeper live pos parent (operator_tree token pos lhs r)) give)))))))
+
+-- what follows an operand in a run of some strength: an operator that goes on with it, or what ends it
+abbrev pub binary_of : Context → Live → Position → ℕ → Node → Option (ℕ × Bool) → Production Node
+binary_of context live at parent lhs None = give lhs
+binary_of context live at parent lhs (Some op) = if continues parent op.0 op.1
+    then binary_on context live at parent lhs op else give lhs
+
+-- An operand, and the operators after it: one level deeper, which is refused at its first token.
+--     expression = operand { binary right }
+abbrev pub expression_of : Context → Live → Production Node
+expression_of context live = here (λ at. raise context at (λ deeper. part (goal.Operand deeper live) (λ x.
+    part (goal.BinaryOp deeper live (position_of x) 1 x) give)))
+
+-- an expression, and then the end mark
+--     formula = expression END
+abbrev pub whole : Context → Live → Production Node
+whole context live = part (goal.Expression context live) (λ x. if_next is_end (give x) (never unexpected))
+
+-- A block of an interpolated string with the text after it, and so on up to the last text. Each is one level deeper,
+-- which is refused at the first text.
+--     string = TEXT block { TEXT block } STRING
+abbrev pub segments_of : Context → Live → Position → Nodes → Production Nodes
+segments_of context live start before = part goal.BlockStart (λ opening. raise context start (λ deeper.
+    part (goal.Inside deeper live) (λ fs. part goal.TextAfter (λ t.
+    if t.2 then give (added_text (with_node before (block_value (braces fs opening t.0))) t.1 t.3)
+    else part (goal.Segments context live start
+    (added_text (with_node before (block_value (braces fs opening t.0))) t.1 t.3)) give))))

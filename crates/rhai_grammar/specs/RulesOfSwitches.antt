@@ -1,0 +1,73 @@
+-- Productions of the arms of `switch`.
+use Rattle.std.specs.Prelude.{Bool, codes, false, true, if◌then◌else◌}
+use Rattle.rhai_lower.specs.Nodes.{Node, Nodes, block_value, made_block, no_nodes, with_node}
+use Rattle.rhai_lower.specs.declared.position.Position.{Position}
+use Rattle.rhai_grammar.specs.Switches.{Collected, arm_fault, ends_arm, with_arm_collected, with_default_collected}
+use Rattle.rhai_grammar.specs.Switches.{no_guard}
+use Rattle.rhai_grammar.specs.Contexts.{Context, Live, below_global, in_block}
+use Rattle.rhai_grammar.specs.DueTokens.{is_due}
+use Rattle.rhai_grammar.specs.Delivered.{is_end}
+use Rattle.rhai_grammar.specs.Beginnings.{missing}
+use Rattle.rhai_grammar.specs.CommaLists.{not_after}
+use Rattle.rhai_grammar.specs.Causes.{refusal}
+use Rattle.rhai_grammar.specs.declared.list.AfterPart.{AfterPart}
+use Rattle.rhai_grammar.specs.declared.role.ArmRole.{ArmRole}
+use Rattle.rhai_grammar.specs.Productions.{Production, due, faultless, give, if_next, never, part, stop, this}
+use Rattle.rhai_grammar.specs.Causes as cause
+use Rattle.rhai_grammar.specs.declared.due.DueToken.TheVariants as due_token
+use Rattle.rhai_grammar.specs.declared.list.AfterPart.TheVariants as after
+use Rattle.rhai_grammar.specs.declared.list.CommaList.TheVariants as lists
+use Rattle.rhai_grammar.specs.declared.role.ArmRole.TheVariants as arm
+use Rattle.rhai_grammar.specs.Goals as goal
+
+-- a case, and others after a `|`
+--     case = expression
+abbrev pub cases_of : Context → Live → Nodes → Production Nodes
+cases_of context live before = part (goal.Case context live) (λ x. if_next (is_due due_token.Pipe) (this (λ _ at.
+    part (goal.Cases context live (with_node before x)) give)) (give (with_node before x)))
+
+-- `if` and a guard, or nothing
+abbrev pub case_guard : Context → Live → Production Node
+case_guard context live = if_next (is_due due_token.If) (this (λ _ at. part (goal.Guard context live) give))
+    (give no_guard)
+
+-- an expression, where no statements are allowed, else a statement, whose slots end with the arm
+--     action = statement
+abbrev pub action_by : Context → Live → Bool → Production (Node × Bool)
+action_by context live true = part (goal.Expression context live) (λ x. give (x, false))
+action_by context live false = if_next is_end (never (λ _. cause.UnexpectedEOF)) (part (goal.Statement
+    (below_global context) (in_block live)) (λ f. give (block_value (made_block f.0), ends_arm f.0)))
+
+-- A comma, or the `}`, or nothing after an arm that needs no comma.
+abbrev pub arm_end_by : Bool → AfterPart → Production (Unit {0})
+arm_end_by itself after.Comma = this (λ _ at. give tt)
+arm_end_by itself after.Close = give tt
+arm_end_by itself after.Nothing = if itself then give tt else never (not_after lists.Arms)
+
+-- Cases, a guard, and what is done there. The cases are tested after that, and then the end of the arm.
+--     arm = case { "|" case } [ "if" guard ] "=>" action
+abbrev pub arm_of : Context → Live → Collected → Production (Nodes × Node × Node)
+arm_of context live before = part (goal.Cases context live no_nodes) (λ xs. part (goal.CaseGuard context live)
+    (λ guard. due due_token.DoubleArrow (part (goal.Action context live) (λ does. faultless (arm_fault before xs)
+    (part (goal.ArmEnd does.1) (λ end. give (xs, guard, does.0)))))))
+
+-- the `}` after the default arm; another arm there is refused at the `_`
+abbrev pub default_end_by : Position → ArmRole → Production (Unit {0})
+default_end_by default arm.Close = this (λ _ at. give tt)
+default_end_by default arm.Nothing = never (missing (codes "}"))
+default_end_by default _ = stop (refusal cause.WrongSwitchDefaultCase default)
+
+-- the default arm after its `_`; it has no guard and is the last
+abbrev pub default_arm : Context → Live → Position → Production Node
+default_arm context live default = if_next (is_due due_token.If) (never (λ _. cause.WrongSwitchCaseCondition))
+    (due due_token.DoubleArrow (part (goal.Action context live) (λ does. part (goal.ArmEnd does.1) (λ end.
+    part (goal.DefaultEnd default) (λ close. give does.0)))))
+
+-- an arm with cases, or the default arm, or the `}`
+abbrev pub arms_by : Context → Live → Collected → ArmRole → Production Collected
+arms_by context live before arm.Case = part (goal.Arm context live before) (λ a.
+    part (goal.Arms context live (with_arm_collected before a.0 a.1 a.2)) give)
+arms_by context live before arm.Default = this (λ _ at. part (goal.DefaultArm context live at) (λ x.
+    give (with_default_collected before x)))
+arms_by context live before arm.Close = this (λ _ at. give before)
+arms_by context live before arm.Nothing = never (missing (codes "}"))
