@@ -1,4 +1,4 @@
--- What a tree mentions, by recursion over its parts: the nodes of a walk over it mention the same.
+-- What a tree mentions, by recursion over its parts; a walk mentions the same.
 use Rattle.std.proofs.Common.{◌≡◌, ◌∙◌, ℕ, List, [], ◌∷◌, ◌++◌, ap, ap₂, append-nil, refl}
 use Rattle.std.proofs.lemmas.List.Concat.{flat_map-append}
 use Rattle.rhai_lower.specs.Nodes.{Arms, Block, Cases, Node, Nodes, Optional, Properties, Statement}

@@ -1,2 +1,3 @@
-mod BracketLemmas
-mod LineLemmas
+pub mod BracketLemmas
+pub mod LineLemmas
+pub mod MarkLemmas

@@ -1,4 +1,5 @@
 pub mod Brackets
 pub mod Lines
 pub mod Marks
+pub mod Reports
 pub mod Visible

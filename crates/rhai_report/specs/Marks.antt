@@ -1,6 +1,15 @@
--- Bytes of a file in which a script begins after its start.
-use Rattle.std.specs.Prelude.{◌≡◌, ◌+◌, ◌-◌, ◌^◌, ℕ, min, refl}
+-- Marks: bytes of a file, with the line and column of the first one. A script may begin after the start of its file.
+use Rattle.std.specs.Prelude.{◌≡◌, ◌+◌, ◌-◌, ◌^◌, ◌==◌, ℕ, Bool, false, Option, Some, length, min, refl}
+use Rattle.std.specs.Prelude.{codes, slice_index_or, slice_range}
+use Rattle.std.specs.Rc.{rc_str_bytes}
+use Rattle.std.specs.Str.{IsCharBoundary, chars}
+use Rattle.rhai_lower.specs.Texts.{Text}
+use Rattle.rhai_lower.specs.declared.token.LexError.TheVariants as error
+use Rattle.rhai_lower.specs.declared.token.Token.{Token}
+use Rattle.rhai_lower.specs.declared.token.Token.TheVariants as token
 use Rattle.rhai_tokenizer.specs.declared.tokens.Span.{Span}
+use Rattle.rhai_report.specs.Lines.{line_at}
+use Rattle.rhai_report.specs.declared.mark.Mark.{Mark}
 
 -- the byte of a file that is this one of its script, which begins at byte `from`; at most the greatest number
 abbrev pub byte_in_file : (from byte : ℕ) → ℕ
@@ -10,6 +19,25 @@ byte_in_file from byte = min (byte + from) (2 ^ 64 - 1)
 abbrev pub span_in_file : (from : ℕ) → Span → Span
 span_in_file from s = record { start = byte_in_file from s.start; stop = byte_in_file from s.stop }
 
--- After a first line of 12 bytes, the bytes 3 to 5 of a script are 15 to 17 of its file.
-example : span_in_file 12 (record { start = 3; stop = 5 }) ≡ record { start = 15; stop = 17 }
-example = refl
+-- the column of a byte: one more than the number of characters before it in its line, at most the greatest number
+abbrev pub column_at : Text → (at : ℕ) → ℕ
+column_at text at = min (length (chars (slice_range text (line_at text at).start at)) + 1) (2 ^ 64 - 1)
+
+-- After a first line of 12 bytes, the bytes 3 to 5 of a script are 15 to 17 of its file. The `c` of the two lines `a`
+-- and `bc` is in column 2.
+example : (span_in_file 12 (record { start = 3; stop = 5 }) ≡ record { start = 15; stop = 17 })
+    × (column_at (codes "a\nbc") 3 ≡ 2)
+unfolding chars
+example = (refl, refl)
+
+-- The mark of these bytes of a text: it has their line and, if a character begins there, their column.
+pub record Marks (text : Text) (bytes : Span) (m : Mark) : Type 0 where
+  pub line : m.line ≡ (line_at text bytes.start).number
+  pub column : IsCharBoundary text bytes.start → m.column ≡ column_at text bytes.start
+  pub start : m.start ≡ bytes.start
+  pub stop : m.stop ≡ bytes.stop
+
+-- whether a token is an error about an escape in a string: it names a symbol that begins with a backslash
+abbrev pub is_escape : Option Token → Bool
+is_escape (Some (token.LexError (error.ImproperSymbol r))) = slice_index_or (rc_str_bytes r.value.0) 0 0 == 92
+is_escape _ = false

@@ -1,7 +1,9 @@
 //! `Mark`: a position in a file, and the bytes that are underlined there.
 
-ghost use Rattle.std.specs.Prelude.{◌≡◌};
-ghost use Rattle.rhai_report.specs.Marks.{span_in_file};
+ghost use Rattle.std.specs.Prelude.{◌≡◌, false, length, option_map};
+ghost use Rattle.std.specs.Str.{IsCharBoundary, chars};
+ghost use Rattle.rhai_report.specs.Lines.{line_at};
+ghost use Rattle.rhai_report.specs.Marks.{Marks, column_at, is_escape, span_in_file};
 
 use crate::line::line_of;
 use rhai_lower::{LexError, Position, Token};
@@ -20,13 +22,25 @@ pub struct Mark {
     pub stop: usize,
 }
 
+// The number of characters of a text.
+fn characters(text: &str) -> usize
+    ensures { result ≡ length (chars text.now) }
+{
+    text.chars().count()
+}
+
 /// The mark of the bytes from `start` to `stop`, at the place of the byte `at`.
-pub fn mark_at(text: &str, at: usize, start: usize, stop: usize) -> Mark {
+pub fn mark_at(text: &str, at: usize, start: usize, stop: usize) -> Mark
+    ensures line { result.line ≡ (line_at text.now at).number }
+    ensures column { IsCharBoundary text.now at → result.column ≡ column_at text.now at }
+    ensures start { result.start ≡ start }
+    ensures stop { result.stop ≡ stop }
+{
     let line = line_of(text, at);
     let before = text.get(line.start..at).unwrap_or("");
     Mark {
         line: line.number,
-        column: before.chars().count().saturating_add(1),
+        column: characters(before).saturating_add(1),
         start,
         stop,
     }
@@ -67,7 +81,9 @@ fn byte_at(text: &str, pos: Position) -> Option<usize> {
 }
 
 // The length of the escape that an error of a string is about; 0 for any other token.
-fn escape_len(token: Option<&Token>) -> usize {
+fn escape_len(token: Option<&Token>) -> usize
+    ensures { is_escape (option_map (λ t. t.now) token.entry) ≡ false → result ≡ 0 }
+{
     match token {
         Some(Token::LexError(LexError::ImproperSymbol(symbol))) if symbol.0.starts_with('\\') => {
             symbol.0.len()
@@ -91,7 +107,10 @@ fn escape_mark(text: &str, from: usize, span: Span, pos: Position, len: usize) -
 /// The mark of a token: its bytes, which are `span` in the script. That of a wrong escape in a string is the escape
 /// alone, at the position `pos` of the error, which is that of the character that spoils it. `text` is the file, in
 /// which the script begins at byte `from`; without a `token` the mark is that of the end.
-pub fn mark_of(text: &str, from: usize, span: Span, pos: Position, token: Option<&Token>) -> Mark {
+pub fn mark_of(text: &str, from: usize, span: Span, pos: Position, token: Option<&Token>) -> Mark
+    ensures { is_escape (option_map (λ t. t.now) token.entry) ≡ false
+        → Marks text.now (span_in_file from span) result }
+{
     let Span { start, stop } = in_file(from, span);
     let escape = match escape_len(token) {
         0 => None,

@@ -1,5 +1,8 @@
 //! Why a script is refused: the message of the error, and what is said of a symbol that is not allowed.
 
+ghost use Rattle.std.specs.Prelude.{◌≡◌, IfOk, option_map, string_bytes};
+ghost use Rattle.rhai_report.specs.Reports.{reason, symbol};
+
 use rhai_grammar::{InputError, ParseErrorType};
 use rhai_lower::LexError;
 use std::alloc::{AllocError, Global};
@@ -14,7 +17,9 @@ pub struct Symbol<'a> {
 }
 
 /// The symbol that an error is about, if it is not allowed.
-pub fn symbol_of(kind: &ParseErrorType) -> Option<Symbol<'_>> {
+pub fn symbol_of(kind: &ParseErrorType) -> Option<Symbol<'_>>
+    ensures { option_map (λ s. (s.text.now, s.note.now)) result ≡ symbol kind.now }
+{
     match kind {
         ParseErrorType::BadInput(InputError::ImproperSymbol(text, note)) => Some(Symbol {
             text,
@@ -32,7 +37,9 @@ pub fn symbol_of(kind: &ParseErrorType) -> Option<Symbol<'_>> {
 
 /// Why a script is refused: the error's own message, but of a symbol that is not allowed this alone, since its note may
 /// be no whole sentence. Returns `AllocError` if memory runs out.
-pub fn message_of(alloc: Global, kind: &ParseErrorType) -> Result<String, AllocError> {
+pub fn message_of(alloc: Global, kind: &ParseErrorType) -> Result<String, AllocError>
+    ensures { IfOk result (λ message. string_bytes message ≡ reason kind.now) }
+{
     match symbol_of(kind) {
         Some(Symbol { text, .. }) => format!(in alloc; "Invalid symbol encountered: '{text}'"),
         None => format!(in alloc; "{kind}"),

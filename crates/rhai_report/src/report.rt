@@ -1,11 +1,15 @@
 //! `Report`: what is told of a script that is refused.
 
+ghost use Rattle.std.specs.Prelude.{◌≡◌, IfOk, option_map};
+ghost use Rattle.std.specs.List.{position};
+ghost use Rattle.rhai_report.specs.Reports.{IsMarkOf, Tells, first_at, is_at, token_at};
+
 use crate::mark::{Mark, mark_of};
 use crate::message::message_of;
 use crate::notes::notes_of;
 use rhai_grammar::ParseError;
-use rhai_lower::Position;
-use rhai_tokenizer::{Span, Tokens};
+use rhai_lower::{Position, Token};
+use rhai_tokenizer::Tokens;
 use std::alloc::{AllocError, Global};
 
 /// A file with a script.
@@ -52,18 +56,41 @@ pub struct Report<'a> {
     pub notes: Vec<Note>,
 }
 
+// The token of this index, if there is one.
+fn token_at(tokens: &Tokens, index: usize) -> Option<&Token>
+    ensures { option_map (λ t. t.now) result ≡ token_at tokens.now index }
+{
+    let entry = tokens.entries.get(index)?;
+    Some(&entry.token)
+}
+
 // The mark of the token of this index, or of the end.
-fn mark_of_token(source: Source<'_>, tokens: &Tokens, index: usize, pos: Position) -> Option<Mark> {
-    let Span { start, stop } = *tokens.spans.get(index)?;
-    let token = tokens.entries.get(index).map(|entry| &entry.token);
-    Some(mark_of(source.text, source.start, Span { start, stop }, pos, token))
+fn mark_of_token(source: Source<'_>, tokens: &Tokens, index: usize, pos: Position) -> Option<Mark>
+    ensures { IsMarkOf source.entry tokens.now index result }
+{
+    let span = *tokens.spans.get(index)?;
+    Some(mark_of(
+        source.text,
+        source.start,
+        span,
+        pos,
+        token_at(tokens, index),
+    ))
+}
+
+// The index of the first token at this position, if one is there.
+fn found_at(tokens: &Tokens, pos: Position) -> Option<usize>
+    ensures { result ≡ position (is_at pos) tokens.now.entries.items }
+{
+    tokens.entries.iter().position(|entry| entry.pos == pos)
 }
 
 /// The index of the first token at this position; that of the end mark, which is the number of tokens, if no token is
 /// there.
-pub fn index_at(tokens: &Tokens, pos: Position) -> usize {
-    let found = tokens.entries.iter().position(|entry| entry.pos == pos);
-    found.unwrap_or(tokens.entries.len())
+pub fn index_at(tokens: &Tokens, pos: Position) -> usize
+    ensures { result ≡ first_at pos tokens.now.entries.items }
+{
+    found_at(tokens, pos).unwrap_or(tokens.entries.len())
 }
 
 /// What is told of a script that is refused with this error, at the token of this index (that of the end mark is the
@@ -76,7 +103,9 @@ pub fn report_of<'a>(
     index: usize,
     error: &'a ParseError,
     outside: Outside<'_>,
-) -> Result<Report<'a>, AllocError> {
+) -> Result<Report<'a>, AllocError>
+    ensures { IfOk result (Tells source.entry tokens.now index error.now) }
+{
     let ParseError(kind, pos) = error;
     let mark = if pos.is_none() {
         None
