@@ -24,6 +24,7 @@ use Rattle.rhai_grammar.specs.declared.filter.ExprFilter.{ExprFilter}
 use Rattle.rhai_grammar.specs.declared.filter.ExprFilter.TheVariants.{All}
 use Rattle.rhai_reading.specs.Reading.{Goal, Script, Whole}
 use Rattle.rhai_grammar.specs.Promises.{ReadsWhole, Written}
+use Rattle.rhai_productions.proofs.Orders.{libraries_stay_orderly}
 use Rattle.rhai_base.specs.Counts.{counts_of, none_yet}
 use Rattle.rhai_base.specs.Frames.{known_variables}
 use Rattle.rhai_base.specs.Libraries.{library_of}
