@@ -1,6 +1,6 @@
 -- A script that is read in a new state.
-use Rattle.std.proofs.Common.{◌≡◌, ◌∙◌, ℕ, List, [], Result, false, true, ap, map, refl, subst}
-use Rattle.std.specs.Prelude.{Err, Vec}
+use Rattle.std.proofs.Common.{◌≡◌, ◌∙◌, ◌+◌, ◌-◌, ◌^◌, ◌≤◌, ℕ, List, [], Result, false, true, ap, map, refl, subst}
+use Rattle.std.specs.Prelude.{◌⊎◌, Err, IfOk, Ok, Vec}
 use Rattle.rhai_lower.specs.declared.ast.AST.{AST}
 use Rattle.rhai_lower.specs.declared.optimizer.OptimizationLevel.{OptimizationLevel}
 use Rattle.std.specs.Rc.{rc_str_bytes}
@@ -24,8 +24,10 @@ use Rattle.rhai_grammar.specs.declared.filter.ExprFilter.{ExprFilter}
 use Rattle.rhai_grammar.specs.declared.filter.ExprFilter.TheVariants.{All}
 use Rattle.rhai_reading.specs.Reading.{Goal, Script, Whole}
 use Rattle.rhai_grammar.specs.Promises.{ReadsWhole, Written}
+use Rattle.rhai_grammar.specs.Forms.{depth}
+use Rattle.rhai_grammar.specs.Rules.{production}
 use Rattle.rhai_productions.proofs.Orders.{libraries_stay_orderly}
-use Rattle.rhai_base.specs.Counts.{counts_of, none_yet}
+use Rattle.rhai_base.specs.Counts.{Counts, counts_of, none_yet}
 use Rattle.rhai_base.specs.Frames.{known_variables}
 use Rattle.rhai_base.specs.Libraries.{library_of}
 use Rattle.rhai_base.specs.Settings.{settings_of}
@@ -33,11 +35,13 @@ use Rattle.rhai_base.specs.States.{IsFresh}
 use Rattle.rhai_base.specs.declared.settings.ParseSettings.{ParseSettings}
 use Rattle.rhai_parser.specs.Engines.{EngineValue, expr_settings, script_settings, sizes_of}
 use Rattle.rhai_parser.specs.Scripts.{Constants, IsMadeOf, IsScriptOf, Makes, ReadsScript}
+use Rattle.rhai_parser.specs.Nesting.{NestsAsWritten}
 use Rattle.rhai_parser.specs.Starts.{KeepsOrder, StateValue, live_in, starts_in}
 use Rattle.rhai_tokenizer.specs.Readings.{Reads}
 use Rattle.rhai_tokenizer.specs.declared.limits.Limits.{Limits}
 use Rattle.rhai_tokenizer.specs.declared.tokens.Tokens as T
 use Rattle.rhai_script.specs.Scripts.{ReadsTextAsAst, ReadsTextAsExpression, text_context}
+use Rattle.rhai_script.specs.GlobalLevels.{reaching}
 use Rattle.rhai_script.specs.Texts.{ReadsText}
 use Rattle.rhai_script.proofs.TextLemmas.{StandWhereNamed, nothing_read, text_read}
 
@@ -222,6 +226,27 @@ script_parsed engine chosen settings state stream held constants after left resu
     (cursor_of state.input.now) left result slots modules) n.lib p2 in
     subst (λ s. ReadsScript context nothing_live (library_of held) after
     (cursor_of s) left result slots modules) n.input p3
+
+-- so is how deeply readers were nested, of which only the peak counts
+pub nests_parsed : (engine : EngineValue) (chosen settings : ParseSettings) (state : StateValue) (stream : Stream)
+    (held : Functions) (constants : Constants) (counts : Counts) (peak : ℕ) (result : Read)
+    → chosen ≡ settings → counts.peak ≡ peak → IsNew state stream held constants
+    → IfOk result (λ script. NestsAsWritten (starts_in engine state chosen) (live_in state)
+    (library_of state.lib.now.entries) (cursor_of state.input.now) counts)
+    → IfOk result (λ script. NestsAsWritten (text_context engine settings constants) nothing_live (library_of held)
+    (cursor_of stream) (reaching peak))
+nests_parsed engine chosen settings state stream held constants counts peak (Err e) is top n deep = tt
+nests_parsed engine chosen settings state stream held constants counts peak (Ok script) is top n deep =
+    let context = text_context engine settings constants in
+    let p = subst (λ s. NestsAsWritten (starts_in engine state s) (live_in state) (library_of state.lib.now.entries)
+    (cursor_of state.input.now) counts) is deep in
+    let p1 = subst (λ k. NestsAsWritten k (live_in state) (library_of state.lib.now.entries)
+    (cursor_of state.input.now) counts) (context_is engine settings state stream held constants n) p in
+    let p2 = subst (λ w. NestsAsWritten context w (library_of state.lib.now.entries) (cursor_of state.input.now) counts)
+    (live_is state stream held constants n) p1 in
+    let p3 = subst (λ l. NestsAsWritten context nothing_live (library_of l) (cursor_of state.input.now) counts) n.lib p2 in
+    let p4 = subst (λ s. NestsAsWritten context nothing_live (library_of held) (cursor_of s) counts) n.input p3 in
+    λ f written. subst (λ m. (2 ^ 64 - 1 ≤ m) ⊎ (1 + depth production f.1 ≤ m)) top (p4 f written)
 
 -- the same with what is left under other names
 pub script_left : {context : Context} {live : Live} {before : Library} {start : Cursor} {result : Read} {slots : List

@@ -1,10 +1,10 @@
 -- Tables of bytes by class.
-use Rattle.std.proofs.Common.{◌≡◌, ℕ, ◌<◌, Bool, true, false, ◌==◌, [], ◌∷◌, get_or, refl, sym, ap, ◌∙◌, arith, true≢false}
+use Rattle.std.proofs.Common.{◌≡◌, ℕ, ◌<◌, Bool, true, false, not, ◌&&◌, ◌||◌, ◌==◌, nat_lt, [], ◌∷◌, get_or, refl, sym, ap, ◌∙◌, arith, true≢false}
 use Rattle.std.proofs.lemmas.Bool.Decides.{nat_tests}
 use Rattle.std.specs.Prelude.{slice_index}
 use Rattle.rhai_lower.specs.Texts.{Text}
 use Rattle.rhai_tokenizer.specs.Bytes.{begins}
-use Rattle.std.proofs.lemmas.Bool.{agree_below, agree_below_at, eqb-true}
+use Rattle.std.proofs.lemmas.Bool.{agree_below, agree_below_at, and_parts, eqb-true, ltb-true, not-true}
 use Rattle.rhai_lower.specs.Names.{is_word}
 use Rattle.rhai_tokenizer.specs.declared.class.First.{First}
 use Rattle.rhai_tokenizer.specs.declared.class.First.TheVariants as first
@@ -75,3 +75,15 @@ blank_bytes = refl
 -- no white space begins with another byte
 pub other_byte : (b : ℕ) → b < 128 → is_space b ≡ false → is_blank_class (first_class b) ≡ false
 other_byte b h e = agree_below_at (λ b. is_blank_class (first_class b)) is_space 128 b blank_bytes h ∙ e
+
+-- a byte that goes on with a word or a symbol is no white space
+usual_bytes : agree_below (λ b. get_or BYTES b 0 == 0 || (not (is_space b) && nat_lt b 128)) (λ b. true) 256 ≡ true
+usual_bytes = refl
+
+pub usual_byte : (b : ℕ) → b < 256 → (get_or BYTES b 0 == 0) ≡ false → (is_space b ≡ false) × (b < 128)
+usual_byte b h e =
+    let all = agree_below_at (λ b. get_or BYTES b 0 == 0 || (not (is_space b) && nat_lt b 128)) (λ b. true) 256 b
+    usual_bytes h in
+    let (space, small) = and_parts (not (is_space b)) (nat_lt b 128)
+    (sym (ap (λ x. x || (not (is_space b) && nat_lt b 128)) e) ∙ all) in
+    (not-true (is_space b) space, ltb-true b 128 small)

@@ -1,8 +1,9 @@
 -- A part of the reading of a text: white space, and the piece after it.
-use Rattle.std.proofs.Common.{◌≡◌, ℕ, ◌+◌, ◌-◌, ◌<◌, true, false, List, [], ◌++◌, map, drop, length, IsUtf8}
+use Rattle.std.proofs.Common.{◌≡◌, ℕ, ◌+◌, ◌-◌, ◌<◌, Bool, Option, Some, true, false, List, [], ◌++◌, map, drop, length, IsUtf8}
 use Rattle.std.proofs.Common.{refl, sym, ap, ◌∙◌, subst, arith, All, IsTrue}
 use Rattle.std.proofs.lemmas.List.{length-drop}
 use Rattle.std.proofs.lemmas.List.Elements.{All-nil}
+use Rattle.std.specs.Prelude.{IfSome}
 use Rattle.std.specs.Str.{IsCharBoundary}
 use Rattle.rhai_lower.specs.Entries.{may_be_delivered}
 use Rattle.rhai_lower.specs.Texts.{Text}
@@ -16,7 +17,7 @@ use Rattle.rhai_tokenizer.specs.Meanings.{after, at_start, brace_of}
 use Rattle.rhai_tokenizer.specs.Pieces.{Before}
 use Rattle.rhai_tokenizer.specs.Places.{past, start}
 use Rattle.rhai_tokenizer.specs.Readings.{item_of, items, spans}
-use Rattle.rhai_tokenizer.specs.Turns.{AreDelivered, IsIn, IsRead, IsReady, IsTurn, before_of, due, left, place_of}
+use Rattle.rhai_tokenizer.specs.Turns.{AreDelivered, IsIn, IsQuiet, IsRead, IsReady, IsTurn, before_of, due, left, place_of}
 use Rattle.rhai_tokenizer.proofs.TurnLemmas as turn
 
 -- a piece is within the text, and the text may be cut after it
@@ -92,6 +93,28 @@ read_ready limits old new t more ready f d = record {
   placed = f.placed;
   room = omega (arith, f.within, ready.room);
 }
+
+-- ---- where nothing but its first bytes decides the next piece
+
+-- the next piece may be read
+pub quiet_ready : (limits : Limits) (old r : Reading) (t more : Text) (b : Bool) → IsReady old t
+    → IsRead limits old r t more → IsQuiet r → b ≡ due false more → b ≡ true → IsReady r more
+quiet_ready limits old r t more b ready f quiet is h =
+    read_ready limits old r t more ready f (ap (λ (i : Bool). due i more) quiet.code ∙ (sym is ∙ h))
+
+-- a piece that is read, if one is
+pub some_turn : (old new : Reading) (t : Text) (o : Option ℕ) (n : ℕ) → o ≡ Some n
+    → IfSome o (λ n. (limits : Limits) → IsTurn limits old new t n) → (limits : Limits) → IsTurn limits old new t n
+some_turn old new t o n is f =
+    subst (λ (o : Option ℕ). IfSome o (λ n. (limits : Limits) → IsTurn limits old new t n)) is f
+
+pub quiet_falls : (limits : Limits) (old new : Reading) (t more : Text) (n : ℕ) → IsReady old t
+    → IsTurn limits old new t n → more ≡ drop n t → IsQuiet old → IsQuiet new → length more < length t
+quiet_falls limits old new t more n ready f back q r =
+    let a = turn_falls limits old new t more n ready f back in
+    let b = subst (λ (i : Bool). left i more < left old.in_text t) r.code a in
+    let c : left false more < left false t = subst (λ (i : Bool). left false more < left i t) q.code b in
+    omega (arith, c)
 
 -- what was read of a text from its start
 pub record FromStart (limits : Limits) (r : Reading) (t more : Text) : Type 0 where

@@ -6,7 +6,7 @@ use Rattle.std.proofs.lemmas.List.{take-append-drop, drop-drop, take-map, drop-m
 use Rattle.std.specs.List.{list_all}
 use Rattle.rhai_lower.specs.Texts.{Text, same_text}
 use Rattle.rhai_tokenizer.specs.declared.table.Meaning.{Meaning}
-use Rattle.rhai_tokenizer.specs.declared.table.TheConstants.{SYMBOL_STARTS, WORD_STARTS}
+use Rattle.rhai_tokenizer.specs.declared.table.TheConstants.{SYMBOL_STARTS}
 use Rattle.rhai_tokenizer.specs.Bytes.{begins, begins_with}
 use Rattle.rhai_tokenizer.specs.Cutting.{Table, entry_of, lookup, symbol_table, word_table}
 
@@ -39,24 +39,6 @@ entry_stop : (b : ℕ) (t : Text) (x y : Table) → list_all (is_off b) y ≡ tr
     ≡ entry_of x (b ∷ t)
 entry_stop b t [] y h = entry_off b t y h
 entry_stop b t (e ∷ x) y h = ap (λ r. cond (begins_with e.0 (b ∷ t)) (Some e) r) (entry_stop b t x y h)
-
-lookup_skip : (b : ℕ) (t : Text) (x y : Table) → list_all (is_off b) x ≡ true → lookup (x ++ y) (b ∷ t)
-    ≡ lookup y (b ∷ t)
-lookup_skip b t [] y h = refl
-lookup_skip b t (e ∷ x) y h =
-    let (here, more) = and_parts (is_off b e) (list_all (is_off b) x) h in
-    rw ((off_text b e.0 t here).1) (lookup_skip b t x y more)
-
-lookup_off : (b : ℕ) (t : Text) (y : Table) → list_all (is_off b) y ≡ true → lookup y (b ∷ t) ≡ None
-lookup_off b t [] h = refl
-lookup_off b t (e ∷ y) h =
-    let (here, more) = and_parts (is_off b e) (list_all (is_off b) y) h in
-    rw ((off_text b e.0 t here).1) (lookup_off b t y more)
-
-lookup_stop : (b : ℕ) (t : Text) (x y : Table) → list_all (is_off b) y ≡ true → lookup (x ++ y) (b ∷ t)
-    ≡ lookup x (b ∷ t)
-lookup_stop b t [] y h = lookup_off b t y h
-lookup_stop b t (e ∷ x) y h = ap (λ r. cond (same_text e.0 (b ∷ t)) (Some e.1) r) (lookup_stop b t x y h)
 
 -- three parts of a table
 split : (xs : Table) (i j : ℕ) → i ≤ j → take i xs ++ (take (j - i) (drop i xs) ++ drop j xs) ≡ xs
@@ -92,17 +74,9 @@ symbol_segments : agree_below (is_segment symbol_table SYMBOL_STARTS 73) (λ b. 
 unfolding symbol_table
 symbol_segments = refl
 
-word_segments : agree_below (is_segment word_table WORD_STARTS 63) (λ b. true) 256 ≡ true
-unfolding word_table
-word_segments = refl
-
 pub symbol_segment : (b : ℕ) → b < 256 → Segment symbol_table SYMBOL_STARTS 73 b
 symbol_segment b h = segment symbol_table SYMBOL_STARTS 73 b
     (agree_below_at (is_segment symbol_table SYMBOL_STARTS 73) (λ b. true) 256 b symbol_segments h)
-
-pub word_segment : (b : ℕ) → b < 256 → Segment word_table WORD_STARTS 63 b
-word_segment b h = segment word_table WORD_STARTS 63 b
-    (agree_below_at (is_segment word_table WORD_STARTS 63) (λ b. true) 256 b word_segments h)
 
 pub entry_segment : (xs : Table) (starts : List ℕ) (size b : ℕ) (t : Text) → Segment xs starts size b
     → entry_of (take (get_or starts (b + 1) 0 - get_or starts b 0) (drop (get_or starts b 0) xs)) (b ∷ t)
@@ -114,18 +88,8 @@ entry_segment xs starts size b t s =
     ∙ (sym (entry_skip b t (take i xs) (take (j - i) (drop i xs) ++ drop j xs) s.before)
     ∙ ap (λ y. entry_of y (b ∷ t)) (split xs i j s.order))
 
-pub lookup_segment : (xs : Table) (starts : List ℕ) (size b : ℕ) (t : Text) → Segment xs starts size b
-    → lookup (take (get_or starts (b + 1) 0 - get_or starts b 0) (drop (get_or starts b 0) xs)) (b ∷ t)
-    ≡ lookup xs (b ∷ t)
-lookup_segment xs starts size b t s =
-    let i : ℕ = get_or starts b 0 in
-    let j : ℕ = get_or starts (b + 1) 0 in
-    sym (lookup_stop b t (take (j - i) (drop i xs)) (drop j xs) s.after)
-    ∙ (sym (lookup_skip b t (take i xs) (take (j - i) (drop i xs) ++ drop j xs) s.before)
-    ∙ ap (λ y. lookup y (b ∷ t)) (split xs i j s.order))
-
 -- the part of the code's table
-part : {B : Type 0} (f : B → Text × Meaning) (xs : List B) (n i : ℕ) → map f (take n (drop i xs))
+pub part : {B : Type 0} (f : B → Text × Meaning) (xs : List B) (n i : ℕ) → map f (take n (drop i xs))
     ≡ take n (drop i (map f xs))
 part f xs n i = sym (take-map f n (drop i xs)) ∙ ap (take n) (sym (drop-map f i xs))
 
@@ -138,16 +102,6 @@ entry_part f xs table given starts size b t is e s =
     ∙ ap (λ x. take (get_or given (b + 1) 0 - get_or given b 0) (drop (get_or given b 0) x)) is)
     ∙ (ap (λ g. entry_of (take (get_or g (b + 1) 0 - get_or g b 0) (drop (get_or g b 0) table)) (b ∷ t)) e
     ∙ entry_segment table starts size b t s)
-
-pub lookup_part : {B : Type 0} (f : B → Text × Meaning) (xs : List B) (table : Table) (given starts : List ℕ)
-    (size b : ℕ) (t : Text) → map f xs ≡ table → given ≡ starts → Segment table starts size b
-    → lookup (map f (take (get_or given (b + 1) 0 - get_or given b 0) (drop (get_or given b 0) xs))) (b ∷ t)
-    ≡ lookup table (b ∷ t)
-lookup_part f xs table given starts size b t is e s =
-    ap (λ x. lookup x (b ∷ t)) (part f xs (get_or given (b + 1) 0 - get_or given b 0) (get_or given b 0)
-    ∙ ap (λ x. take (get_or given (b + 1) 0 - get_or given b 0) (drop (get_or given b 0) x)) is)
-    ∙ (ap (λ g. lookup (take (get_or g (b + 1) 0 - get_or g b 0) (drop (get_or g b 0) table)) (b ∷ t)) e
-    ∙ lookup_segment table starts size b t s)
 
 pub word_none : None ≡ lookup word_table []
 unfolding word_table

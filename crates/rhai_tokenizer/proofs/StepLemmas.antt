@@ -1,10 +1,11 @@
 -- One turn of the reading of a text, by what its code knows of the piece.
-use Rattle.std.proofs.Common.{◌≡◌, ℕ, ◌+◌, ◌-◌, ◌≤◌, Bool, true, false, ◌||◌, [], ◌∷◌, Option, None, cond, codes, drop, take, length, reverse, IsUtf8, refl, sym, ap, ◌∙◌, subst, arith, true≢false}
+use Rattle.std.proofs.Common.{◌≡◌, ℕ, ◌+◌, ◌-◌, ◌≤◌, Bool, true, false, ◌||◌, List, [], ◌∷◌, Option, Some, None, cond, codes, drop, take, length, reverse, IsUtf8, refl, sym, ap, ◌∙◌, subst, arith, true≢false}
 use Rattle.std.proofs.Common.{◌&&◌, ◌==◌}
-use Rattle.std.proofs.lemmas.Bool.{or_parts}
-use Rattle.std.proofs.lemmas.List.{append-nil, length-take-le}
+use Rattle.std.proofs.lemmas.Bool.{eqb-true, or_parts}
+use Rattle.std.proofs.lemmas.List.{append-nil, length-take-le, take_rest}
 use Rattle.std.specs.Prelude.{IfSome, option_map, slice_index}
-use Rattle.std.specs.List.{concat, prefix_len}
+use Rattle.std.specs.List.{concat, prefix_len, slice_get}
+use mathlib.Core.List.{reverse_aux}
 use Rattle.rhai_lower.specs.Entries.{token_may_be_delivered}
 use Rattle.rhai_lower.specs.Lexemes.{Lexeme, Sign, lexeme}
 use Rattle.rhai_lower.specs.Names.{is_word}
@@ -21,16 +22,21 @@ use Rattle.rhai_tokenizer.specs.declared.lexer.Kind.TheVariants as kind
 use Rattle.rhai_tokenizer.specs.declared.limits.Limits.{Limits}
 use Rattle.rhai_tokenizer.specs.declared.place.Place.{Place}
 use Rattle.rhai_tokenizer.specs.declared.reading.Reading.{Reading}
+use Rattle.rhai_tokenizer.specs.declared.table.Fixed.{Fixed}
+use Rattle.rhai_tokenizer.specs.declared.table.Fixed.TheVariants as fixed
 use Rattle.rhai_tokenizer.specs.declared.table.Meaning.{Meaning}
+use Rattle.rhai_tokenizer.specs.declared.table.Meaning.TheVariants.{Plain}
 use Rattle.rhai_tokenizer.specs.declared.tokens.Tokens.{Tokens}
-use Rattle.rhai_tokenizer.specs.Bytes.{blanks, is_empty}
+use Rattle.rhai_tokenizer.specs.Bytes.{begins, blanks, is_empty}
+use Rattle.rhai_tokenizer.specs.Fixed.{token_of}
 use Rattle.rhai_tokenizer.specs.Cutting.{first_class, next_at, piece_at, number_cut, sign_cut}
-use Rattle.rhai_tokenizer.specs.CuttingMeanings.{cut_brace, cut_symbol, cut_token, is_sign, meaning_of}
+use Rattle.rhai_tokenizer.specs.CuttingMeanings.{IsAlone, IsPair, cut_brace, cut_symbol, cut_token, is_sign, meaning_of}
 use Rattle.rhai_tokenizer.specs.Meanings.{Found, brace_of_symbol, braces_after, opens_after, operand_then, text_after}
 use Rattle.rhai_tokenizer.specs.Places.{past}
 use Rattle.rhai_tokenizer.specs.Runs.{run_from}
 use Rattle.rhai_tokenizer.specs.Turns.{IsFront, IsIn, IsTurn, Joins, before_of, due, found_of, place_of}
 use Rattle.rhai_tokenizer.proofs.FrontLemmas.{IsCut, front_is, is_cut, known_cut, token_found}
+use Rattle.rhai_tokenizer.proofs.LeadLemmas.{brace_alone, end_alone}
 use Rattle.rhai_tokenizer.proofs.TurnLemmas.{before_after}
 
 -- what the code leaves of the braces and their state, where a piece does this to them
@@ -126,16 +132,16 @@ pub no_limits : Limits
 no_limits = record { doc_comments = false; max_string_size = 0 }
 
 -- what a symbol leaves of the braces
-pub symbol_braces : (old mid new : Reading) (k : Brace) (text : Text) → mid.braces ≡ old.braces → mid.opens ≡ old.opens
+pub symbol_braces : (old mid new : Reading) (k : Brace) (text : Text) → mid.braces ≡ old.braces → old.opens ≡ false
     → k ≡ brace_of_symbol text → new.in_text ≡ text_after k (reverse mid.braces.items)
-    → reverse new.braces.items ≡ braces_after k mid.opens (reverse mid.braces.items) → new.opens ≡ false
+    → reverse new.braces.items ≡ braces_after k false (reverse mid.braces.items) → new.opens ≡ false
     → Braces old new (brace_of_symbol text)
 symbol_braces old mid new k text bs os ks i b s = record {
   in_text = i ∙ (ap (λ k. text_after k (reverse mid.braces.items)) ks
       ∙ ap (λ b. text_after (brace_of_symbol text) (reverse b.items)) bs);
-  braces = b ∙ (ap (λ k. braces_after k mid.opens (reverse mid.braces.items)) ks
-      ∙ (ap (λ o. braces_after (brace_of_symbol text) o (reverse mid.braces.items)) os
-      ∙ ap (λ b. braces_after (brace_of_symbol text) old.opens (reverse b.items)) bs));
+  braces = b ∙ (ap (λ k. braces_after k false (reverse mid.braces.items)) ks
+      ∙ (ap (λ b. braces_after (brace_of_symbol text) false (reverse b.items)) bs
+      ∙ ap (λ o. braces_after (brace_of_symbol text) o (reverse old.braces.items)) (sym os)));
   opens = s ∙ no_opening (same_text text (codes "{") || same_text text (codes "#{")) (same_text text (codes "}"));
 }
   where
@@ -186,3 +192,97 @@ no_sign o m (c ∷ t) some h =
         ≡ l
     by true l = refl
     by false l = refl
+
+-- a symbol of one byte
+pub lone_piece : (limits : Limits) (o : Bool) (place : Place) (t : Text) (f : Fixed) → is_empty t ≡ false
+    → IsAlone (slice_index t 0) (drop 1 t) f → IsCut limits o place t (kind.Symbol (Plain f)) 1
+lone_piece limits o place t f some is =
+    sign_piece limits o place t t (kind.Symbol (Plain f)) 1 some is.class refl
+    (is.cut ∙ ap (sign_cut (slice_index t 0)) (sym (take_rest t 1)))
+
+-- such a symbol leaves the braces
+pub lone_braces : (old new : Reading) (t : Text) → is_empty t ≡ false
+    → brace_of_symbol (slice_index t 0 ∷ []) ≡ brace.Stays → new.in_text ≡ false
+    → reverse new.braces.items ≡ reverse old.braces.items → new.opens ≡ false
+    → Braces old new (brace_of_symbol (take 1 t))
+lone_braces old new [] some is i bs o = absurd (true≢false some)
+lone_braces old new (c ∷ t) some is i bs o =
+    let stays : Braces old new brace.Stays = record { in_text = i; braces = bs; opens = o } in
+    subst (λ (k : Brace). Braces old new k) (sym is) stays
+
+-- the front of a text that begins with `{`
+pub record Opening (t : Text) : Type 0 where
+  pub some : is_empty t ≡ false
+  pub alone : IsAlone (slice_index t 0) (drop 1 t) fixed.LeftBrace
+  pub opens : brace.Opens ≡ brace_of_symbol (take 1 t)
+
+pub opening : (t : Text) → begins (λ c. c == 123) t ≡ true → Opening t
+opening [] h = absurd (true≢false (sym h))
+opening (c ∷ t) h =
+    let at : Opening (123 ∷ t) = record { some = refl; alone = brace_alone t; opens = refl } in
+    subst (λ (c : ℕ). Opening (c ∷ t)) (sym (eqb-true c 123 h)) at
+
+-- the front of a text that begins with `}`
+pub record Closing (t : Text) : Type 0 where
+  pub some : is_empty t ≡ false
+  pub alone : IsAlone (slice_index t 0) (drop 1 t) fixed.RightBrace
+  pub closes : brace.Closes ≡ brace_of_symbol (take 1 t)
+
+pub closing : (t : Text) → begins (λ c. c == 125) t ≡ true → Closing t
+closing [] h = absurd (true≢false (sym h))
+closing (c ∷ t) h =
+    let at : Closing (125 ∷ t) = record { some = refl; alone = end_alone t; closes = refl } in
+    subst (λ (c : ℕ). Closing (c ∷ t)) (sym (eqb-true c 125 h)) at
+
+-- what the innermost brace says of a text
+pub last_text : (xs : List Bool) (b : Bool) → slice_get xs (length xs - 1) ≡ Some b
+    → b ≡ text_after brace.Closes (reverse xs)
+last_text [] b h = absurd cc
+last_text (x ∷ xs) b h =
+    let e : length xs ≡ length (x ∷ xs) - 1 = omega arith in
+    by x xs [] (ap (slice_get (x ∷ xs)) e ∙ h)
+  where
+    by : (x : Bool) (xs ys : List Bool) → slice_get (x ∷ xs) (length xs) ≡ Some b
+        → b ≡ text_after brace.Closes (reverse_aux (x ∷ xs) ys)
+    by x [] ys h = cc
+    by x (y ∷ xs) ys h = by y xs (x ∷ ys) h
+
+-- a symbol of two bytes
+pub pair_piece : (limits : Limits) (o : Bool) (place : Place) (t : Text) (f : Fixed) → is_empty t ≡ false
+    → IsPair (slice_index t 0) (drop 1 t) f → IsCut limits o place t (kind.Symbol (Plain f)) 2
+pair_piece limits o place t f some is =
+    sign_piece limits o place t t (kind.Symbol (Plain f)) 2 some is.class refl
+    (is.cut ∙ ap (sign_cut (slice_index t 0)) (sym (take_rest t 1)))
+
+pub pair_means : (o : Bool) (f : Fixed) (t : Text) → is_empty t ≡ false → IsPair (slice_index t 0) (drop 1 t) f
+    → lexeme (token_of f) ≡ cut_symbol o (Plain f) (take 2 t)
+pair_means o f [] some is = absurd (true≢false some)
+pair_means o f (c ∷ t) some is = rw (is.minus, is.plus) (by o)
+  where
+    by : (o : Bool) → lexeme (token_of f)
+        ≡ cond (o && false) (Sign token.UnaryMinus) (cond (o && false) (Sign token.UnaryPlus) (lexeme (token_of f)))
+    by true = refl
+    by false = refl
+
+pub pair_braces : (old new : Reading) (t : Text) (f : Fixed) → is_empty t ≡ false
+    → IsPair (slice_index t 0) (drop 1 t) f → new.in_text ≡ false
+    → reverse new.braces.items ≡ reverse old.braces.items → new.opens ≡ false
+    → Braces old new (brace_of_symbol (take 2 t))
+pair_braces old new [] f some is i bs o = absurd (true≢false some)
+pair_braces old new (c ∷ t) f some is i bs o =
+    let stays : Braces old new brace.Stays = record { in_text = i; braces = bs; opens = o } in
+    subst (λ (k : Brace). Braces old new k) (sym is.brace) stays
+
+-- what a `{` leaves of the braces
+pub block_braces : (old mid new : Reading) (k : Brace) (text : Text) → mid.braces ≡ old.braces → mid.opens ≡ old.opens
+    → brace.Opens ≡ k → k ≡ brace_of_symbol text → new.in_text ≡ text_after k (reverse mid.braces.items)
+    → reverse new.braces.items ≡ braces_after k mid.opens (reverse mid.braces.items) → new.opens ≡ false
+    → Braces old new (brace_of_symbol text)
+block_braces old mid new k text bs os is ks i b s =
+    let opens : Braces old new k = record {
+      in_text = i ∙ ap (λ b. text_after k (reverse b.items)) bs;
+      braces = b ∙ (ap (λ b. braces_after k mid.opens (reverse b.items)) bs
+          ∙ ap (λ o. braces_after k o (reverse old.braces.items)) os);
+      opens = s ∙ ap opens_after is;
+    } in
+    subst (λ (k : Brace). Braces old new k) ks opens

@@ -1,7 +1,7 @@
 -- What the table says of words.
-use Rattle.std.proofs.Common.{◌≡◌, ◌≤◌, Bool, true, false, cond, List, [], ◌∷◌, map, length, get_or, Some, None, refl, sym}
-use Rattle.std.proofs.Common.{ap, ◌∙◌, arith, true≢false, codes}
-use Rattle.std.proofs.lemmas.Bool.{and_parts, or_parts, false_from_ne_true}
+use Rattle.std.proofs.Common.{◌≡◌, ◌≤◌, ◌<◌, ◌-◌, ℕ, zero, suc, Option, nat_le, take, drop, Bool, true, false, cond, List, [], ◌∷◌, map, length, get_or, Some, None, refl, sym}
+use Rattle.std.proofs.Common.{ap, ◌∙◌, true≢false, codes}
+use Rattle.std.proofs.lemmas.Bool.{agree_below, agree_below_at, and_parts, leb-true, or_parts, false_from_ne_true}
 use Rattle.std.specs.List.{list_all}
 use Rattle.rhai_lower.specs.Texts.{Text, same_text}
 use Rattle.rhai_lower.specs.Names.{is_one_of, is_identifier}
@@ -9,10 +9,12 @@ use Rattle.rhai_lower.specs.Lexemes.{Lexeme, Name, Sign}
 use Rattle.rhai_lower.specs.Tokens.{literal_of}
 use Rattle.rhai_lower.specs.declared.token.Token.{Token}
 use Rattle.rhai_tokenizer.specs.declared.table.Meaning.{Meaning}
-use Rattle.rhai_tokenizer.specs.Cutting.{Table, lookup, may_be_word, word_table}
+use Rattle.rhai_tokenizer.specs.declared.table.TheConstants.{WORD_PLACES}
+use Rattle.rhai_tokenizer.specs.Cutting.{Table, lookup, word_key, word_table}
 use Rattle.rhai_tokenizer.specs.CuttingMeanings.{meaning_of}
 use Rattle.rhai_tokenizer.specs.Symbols.{keywords, reserved_words, find, improper, word_lexeme}
 use Rattle.rhai_tokenizer.proofs.ByteLemmas.{same_is, same_refl, at_member}
+use Rattle.rhai_tokenizer.proofs.SegmentLemmas.{part}
 
 -- the texts of a table mean what it says
 abbrev pub Right : (Text → Lexeme) → Table → Type 0
@@ -58,17 +60,81 @@ passes p (e ∷ es) t h no_pass =
     by here true g ih = absurd (true≢false (sym here ∙ (ap p (same_is e.0 t g) ∙ no_pass)))
     by here false g ih = ih
 
-abbrev may_be : Text → Bool
-may_be [] = false
-may_be (c ∷ t) = may_be_word c (length (c ∷ t))
+-- the words of a table mean what a whole table says of them
+abbrev pub RightIn : (whole xs : Table) → Type 0
+RightIn whole xs = map (λ e. lookup whole e.0) xs ≡ map (λ e. Some e.1) xs
 
-words_may_be : list_all (λ e. may_be e.0) word_table ≡ true
+words_in : RightIn word_table word_table
 unfolding word_table
-words_may_be = refl
+words_in = refl
 
-pub no_word : (t : Text) → 1 ≤ length t → may_be_word (get_or t 0 0) (length t) ≡ false → lookup word_table t ≡ None
-no_word [] h e = absurd (omega arith)
-no_word (c ∷ t) h e = passes may_be word_table (c ∷ t) words_may_be e
+-- what a part of a table says of a text, the whole table says
+part_found : (whole xs : Table) (n j : ℕ) (t : Text) (m : Meaning) → RightIn whole xs
+    → lookup (take n (drop j xs)) t ≡ Some m → lookup whole t ≡ Some m
+part_found whole [] zero zero t m r h = absurd cc
+part_found whole [] (suc n) zero t m r h = absurd cc
+part_found whole [] zero (suc j) t m r h = absurd cc
+part_found whole [] (suc n) (suc j) t m r h = absurd cc
+part_found whole (e ∷ es) n (suc j) t m r h =
+    let more : RightIn whole es = cc in
+    part_found whole es n j t m more h
+part_found whole (e ∷ es) zero zero t m r h = absurd cc
+part_found whole (e ∷ es) (suc n) zero t m r h = by (same_text e.0 t) refl h (part_found whole es n zero t m more)
+  where
+    here : lookup whole e.0 ≡ Some e.1
+    here = cc
+
+    more : RightIn whole es
+    more = cc
+
+    by : (b : Bool) → same_text e.0 t ≡ b → cond b (Some e.1) (lookup (take n es) t) ≡ Some m
+        → (lookup (take n es) t ≡ Some m → lookup whole t ≡ Some m) → lookup whole t ≡ Some m
+    by true g h ih = ap (lookup whole) (sym (same_is e.0 t g)) ∙ (here ∙ h)
+    by false g h ih = ih h
+
+-- the word of a key
+abbrev at_key : ℕ → Table
+at_key k = take (get_or WORD_PLACES k 0 - (get_or WORD_PLACES k 0 - 1)) (drop (get_or WORD_PLACES k 0 - 1) word_table)
+
+abbrev is_found : Option Meaning → Bool
+is_found None = false
+is_found (Some m) = true
+
+words_placed : list_all (λ e. is_found (lookup (at_key (word_key e.0)) e.0)) word_table ≡ true
+unfolding word_table
+words_placed = refl
+
+pub key_right : (t : Text) → lookup (at_key (word_key t)) t ≡ lookup word_table t
+key_right t = by (lookup (at_key (word_key t)) t) refl
+  where
+    by : (o : Option Meaning) → lookup (at_key (word_key t)) t ≡ o → o ≡ lookup word_table t
+    by None h = sym (passes (λ t. is_found (lookup (at_key (word_key t)) t)) word_table t words_placed (ap is_found h))
+    by (Some m) h = sym (part_found word_table word_table _ _ t m words_in h)
+
+places_within : agree_below (λ k. nat_le (get_or WORD_PLACES k 0) 63) (λ k. true) 512 ≡ true
+places_within = refl
+
+pub place_within : (k : ℕ) → k < 512 → get_or WORD_PLACES k 0 ≤ 63
+place_within k h = leb-true (get_or WORD_PLACES k 0) 63
+    (agree_below_at (λ k. nat_le (get_or WORD_PLACES k 0) 63) (λ k. true) 512 k places_within h)
+
+-- the same of the table of the code
+pub key_part : {B : Type 0} (f : B → Text × Meaning) (xs : List B) (places : List ℕ) (k start : ℕ) (t : Text)
+    → map f xs ≡ word_table → places ≡ WORD_PLACES → k ≡ word_key t → start ≡ get_or places k 0 - 1
+    → lookup (map f (take (get_or places k 0 - start) (drop start xs))) t ≡ lookup word_table t
+key_part f xs places k start t is ps ks ss =
+    ap (λ x. lookup x t) (part f xs (get_or places k 0 - start) start
+    ∙ ap (λ x. take (get_or places k 0 - start) (drop start x)) is)
+    ∙ (ap (λ s. lookup (take (get_or places k 0 - s) (drop s word_table)) t) ss
+    ∙ (ap (λ p. lookup (take (get_or p k 0 - (get_or p k 0 - 1)) (drop (get_or p k 0 - 1) word_table)) t) ps
+    ∙ (ap (λ k. lookup (at_key k) t) ks ∙ key_right t)))
+
+words_short : list_all (λ e. nat_le (length e.0) 10) word_table ≡ true
+unfolding word_table
+words_short = refl
+
+pub no_word : (t : Text) → nat_le (length t) 10 ≡ false → lookup word_table t ≡ None
+no_word t h = passes (λ t. nat_le (length t) 10) word_table t words_short h
 
 -- ---- other words
 

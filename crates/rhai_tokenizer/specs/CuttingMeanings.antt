@@ -1,7 +1,7 @@
 -- The token of a piece by its kind and its bytes. No definition: it stands between the code and the forms.
 use Rattle.std.specs.Prelude.{ℕ, Bool, true, false, not, ◌&&◌, ◌||◌, ◌==◌, nat_le, nat_lt, ◌∷◌}
-use Rattle.std.specs.Prelude.{[], ◌+◌}
-use Rattle.std.specs.Prelude.{Option, Some, None, codes, drop, length, slice_index, if◌then◌else◌}
+use Rattle.std.specs.Prelude.{[], ◌+◌, ◌≡◌}
+use Rattle.std.specs.Prelude.{Option, Some, None, codes, drop, take, length, slice_index, if◌then◌else◌}
 use Rattle.std.specs.List.{list_all}
 use Rattle.rhai_lower.specs.Texts.{Text, same_text}
 use Rattle.rhai_lower.specs.Names.{is_word}
@@ -16,10 +16,10 @@ use Rattle.rhai_tokenizer.specs.declared.lexer.Kind.{Kind}
 use Rattle.rhai_tokenizer.specs.declared.lexer.Kind.TheVariants as kind
 use Rattle.rhai_tokenizer.specs.declared.limits.Limits.{Limits}
 use Rattle.rhai_tokenizer.specs.declared.table.Fixed.{Fixed}
-use Rattle.rhai_tokenizer.specs.declared.table.Fixed.TheVariants as fixed
 use Rattle.rhai_tokenizer.specs.declared.table.Meaning.{Meaning}
 use Rattle.rhai_tokenizer.specs.declared.table.Meaning.TheVariants.{Plain, Held, Refused}
 use Rattle.rhai_tokenizer.specs.Bytes.{base_of, begins_with, is_continuation}
+use Rattle.rhai_tokenizer.specs.Cutting.{first_class, sign_cut}
 use Rattle.rhai_tokenizer.specs.Fixed.{token_of}
 use Rattle.rhai_tokenizer.specs.Meanings.{brace_of_symbol, integer_or, without_return}
 use Rattle.rhai_tokenizer.specs.Numbers.{digits_of, integer_value, radix_value}
@@ -72,16 +72,20 @@ cut_symbol operand m t =
 abbrev pub is_sign : ℕ → Bool
 is_sign c = c == 43 || c == 45
 
--- the symbols of one byte that begin no longer one
-abbrev pub is_closer : Fixed → Bool
-is_closer fixed.RightParen = true
-is_closer fixed.Comma = true
-is_closer fixed.SemiColon = true
-is_closer fixed.LeftBracket = true
-is_closer fixed.RightBracket = true
-is_closer fixed.LeftBrace = true
-is_closer fixed.RightBrace = true
-is_closer k = false
+-- the symbol of this first byte alone begins such a text, and means this token, also where an operand begins
+pub record IsAlone (c : ℕ) (t : Text) (f : Fixed) : Type 0 where
+  pub class : first.Other ≡ first_class c
+  pub cut : ◌≡◌ {A = Kind × ℕ} (kind.Symbol (Plain f), 1) (sign_cut c t)
+  pub sign : is_sign c ≡ false
+
+-- the symbol of two bytes with which such a text begins is this token, also where an operand begins, and it changes no
+-- braces
+pub record IsPair (c : ℕ) (t : Text) (f : Fixed) : Type 0 where
+  pub class : first.Other ≡ first_class c
+  pub cut : ◌≡◌ {A = Kind × ℕ} (kind.Symbol (Plain f), 2) (sign_cut c t)
+  pub minus : same_text (take 2 (c ∷ t)) (codes "-") ≡ false
+  pub plus : same_text (take 2 (c ∷ t)) (codes "+") ≡ false
+  pub brace : brace_of_symbol (take 2 (c ∷ t)) ≡ brace.Stays
 
 abbrev pub cut_integer : (is_negative : Bool) → Text → Lexeme
 cut_integer true t = integer_or (45 ∷ digits_of t) (integer_value true t)

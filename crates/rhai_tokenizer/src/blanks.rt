@@ -8,7 +8,7 @@ ghost use Rattle.rhai_tokenizer.specs.Places.{past};
 ghost use Rattle.rhai_tokenizer.specs.Runs.{first_of, run_from};
 ghost use Rattle.rhai_tokenizer.specs.Turns.{IsIn, place_in};
 
-use crate::class::is_space;
+use crate::class::{is_space, is_usual};
 use crate::lexer::begins_with;
 use crate::place::{FIRST_LINE, Line, line_of, pass_byte, past, place_in};
 use crate::table::BLANKS;
@@ -89,7 +89,7 @@ fn begins_with_lone_blank(z: &[u8]) -> bool
     ensures { result ≡ spec.begins_lone_blank z.now }
 {
     match z {
-        [b' ', b, ..] => !is_space(*b) && *b < 128,
+        [b' ', b, ..] => is_usual(*b) || (!is_space(*b) && *b < 128),
         _ => false,
     }
 }

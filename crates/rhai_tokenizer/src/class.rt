@@ -1,10 +1,12 @@
 //! Classes of bytes: what a byte begins, and what it continues.
 
-ghost use Rattle.std.specs.Prelude.{◌≡◌, ◌≤◌, length};
+ghost use Rattle.std.specs.Prelude.{◌≡◌, ◌<◌, ◌≤◌, false, length, true};
 ghost use Rattle.rhai_lower.specs.Names.{is_word};
 ghost use Rattle.std.specs.Char.{digit_value};
-ghost use Rattle.rhai_tokenizer.specs.Bytes.{base_of, is_digit_after, is_letter};
+ghost use Rattle.rhai_tokenizer.specs.Bytes.{base_of, is_digit_after};
 ghost use Rattle.rhai_tokenizer.specs.Cutting as spec;
+
+use crate::table::Fixed;
 
 /// What begins with a byte.
 #[derive(Clone, Copy)]
@@ -56,6 +58,303 @@ pub fn first_class(byte: u8) -> First
     }
 }
 
+/// What begins with a byte, where usual pieces are told from all others.
+#[derive(Clone, Copy)]
+pub enum Lead {
+    /// A word.
+    Word,
+    /// White space.
+    Blank,
+    /// An integer.
+    Digit,
+    /// A `{`.
+    Brace,
+    /// A `}`.
+    End,
+    /// A symbol of this byte alone.
+    Closer(Fixed),
+    /// A symbol of this byte alone, unless the next byte continues it.
+    Sign(Fixed),
+    /// Another piece.
+    Other,
+}
+
+// What begins with each byte.
+static LEADS: [Lead; 256] = [
+    Lead::Other,
+    Lead::Other,
+    Lead::Other,
+    Lead::Other,
+    Lead::Other,
+    Lead::Other,
+    Lead::Other,
+    Lead::Other,
+    Lead::Other,
+    Lead::Blank,
+    Lead::Blank,
+    Lead::Blank,
+    Lead::Blank,
+    Lead::Blank,
+    Lead::Other,
+    Lead::Other,
+    Lead::Other,
+    Lead::Other,
+    Lead::Other,
+    Lead::Other,
+    Lead::Other,
+    Lead::Other,
+    Lead::Other,
+    Lead::Other,
+    Lead::Other,
+    Lead::Other,
+    Lead::Other,
+    Lead::Other,
+    Lead::Other,
+    Lead::Other,
+    Lead::Other,
+    Lead::Other,
+    Lead::Blank,
+    Lead::Other,
+    Lead::Other,
+    Lead::Other,
+    Lead::Other,
+    Lead::Sign(Fixed::Modulo),
+    Lead::Sign(Fixed::Ampersand),
+    Lead::Other,
+    Lead::Sign(Fixed::LeftParen),
+    Lead::Closer(Fixed::RightParen),
+    Lead::Sign(Fixed::Multiply),
+    Lead::Other,
+    Lead::Closer(Fixed::Comma),
+    Lead::Other,
+    Lead::Sign(Fixed::Period),
+    Lead::Other,
+    Lead::Digit,
+    Lead::Digit,
+    Lead::Digit,
+    Lead::Digit,
+    Lead::Digit,
+    Lead::Digit,
+    Lead::Digit,
+    Lead::Digit,
+    Lead::Digit,
+    Lead::Digit,
+    Lead::Sign(Fixed::Colon),
+    Lead::Closer(Fixed::SemiColon),
+    Lead::Sign(Fixed::LessThan),
+    Lead::Sign(Fixed::Equals),
+    Lead::Sign(Fixed::GreaterThan),
+    Lead::Other,
+    Lead::Other,
+    Lead::Word,
+    Lead::Word,
+    Lead::Word,
+    Lead::Word,
+    Lead::Word,
+    Lead::Word,
+    Lead::Word,
+    Lead::Word,
+    Lead::Word,
+    Lead::Word,
+    Lead::Word,
+    Lead::Word,
+    Lead::Word,
+    Lead::Word,
+    Lead::Word,
+    Lead::Word,
+    Lead::Word,
+    Lead::Word,
+    Lead::Word,
+    Lead::Word,
+    Lead::Word,
+    Lead::Word,
+    Lead::Word,
+    Lead::Word,
+    Lead::Word,
+    Lead::Word,
+    Lead::Closer(Fixed::LeftBracket),
+    Lead::Other,
+    Lead::Closer(Fixed::RightBracket),
+    Lead::Sign(Fixed::XOr),
+    Lead::Word,
+    Lead::Other,
+    Lead::Word,
+    Lead::Word,
+    Lead::Word,
+    Lead::Word,
+    Lead::Word,
+    Lead::Word,
+    Lead::Word,
+    Lead::Word,
+    Lead::Word,
+    Lead::Word,
+    Lead::Word,
+    Lead::Word,
+    Lead::Word,
+    Lead::Word,
+    Lead::Word,
+    Lead::Word,
+    Lead::Word,
+    Lead::Word,
+    Lead::Word,
+    Lead::Word,
+    Lead::Word,
+    Lead::Word,
+    Lead::Word,
+    Lead::Word,
+    Lead::Word,
+    Lead::Word,
+    Lead::Brace,
+    Lead::Sign(Fixed::Pipe),
+    Lead::End,
+    Lead::Other,
+    Lead::Other,
+    Lead::Other,
+    Lead::Other,
+    Lead::Other,
+    Lead::Other,
+    Lead::Other,
+    Lead::Other,
+    Lead::Other,
+    Lead::Other,
+    Lead::Other,
+    Lead::Other,
+    Lead::Other,
+    Lead::Other,
+    Lead::Other,
+    Lead::Other,
+    Lead::Other,
+    Lead::Other,
+    Lead::Other,
+    Lead::Other,
+    Lead::Other,
+    Lead::Other,
+    Lead::Other,
+    Lead::Other,
+    Lead::Other,
+    Lead::Other,
+    Lead::Other,
+    Lead::Other,
+    Lead::Other,
+    Lead::Other,
+    Lead::Other,
+    Lead::Other,
+    Lead::Other,
+    Lead::Other,
+    Lead::Other,
+    Lead::Other,
+    Lead::Other,
+    Lead::Other,
+    Lead::Other,
+    Lead::Other,
+    Lead::Other,
+    Lead::Other,
+    Lead::Other,
+    Lead::Other,
+    Lead::Other,
+    Lead::Other,
+    Lead::Other,
+    Lead::Other,
+    Lead::Other,
+    Lead::Other,
+    Lead::Other,
+    Lead::Other,
+    Lead::Other,
+    Lead::Other,
+    Lead::Other,
+    Lead::Other,
+    Lead::Other,
+    Lead::Other,
+    Lead::Other,
+    Lead::Other,
+    Lead::Other,
+    Lead::Other,
+    Lead::Other,
+    Lead::Other,
+    Lead::Other,
+    Lead::Other,
+    Lead::Other,
+    Lead::Other,
+    Lead::Other,
+    Lead::Other,
+    Lead::Other,
+    Lead::Other,
+    Lead::Other,
+    Lead::Other,
+    Lead::Other,
+    Lead::Other,
+    Lead::Other,
+    Lead::Other,
+    Lead::Other,
+    Lead::Other,
+    Lead::Other,
+    Lead::Other,
+    Lead::Other,
+    Lead::Other,
+    Lead::Other,
+    Lead::Other,
+    Lead::Other,
+    Lead::Other,
+    Lead::Other,
+    Lead::Other,
+    Lead::Other,
+    Lead::Other,
+    Lead::Other,
+    Lead::Other,
+    Lead::Other,
+    Lead::Other,
+    Lead::Other,
+    Lead::Other,
+    Lead::Other,
+    Lead::Other,
+    Lead::Other,
+    Lead::Other,
+    Lead::Other,
+    Lead::Other,
+    Lead::Other,
+    Lead::Other,
+    Lead::Other,
+    Lead::Other,
+    Lead::Other,
+    Lead::Other,
+    Lead::Other,
+    Lead::Other,
+    Lead::Other,
+    Lead::Other,
+    Lead::Other,
+    Lead::Other,
+    Lead::Other,
+    Lead::Other,
+    Lead::Other,
+    Lead::Other,
+    Lead::Other,
+    Lead::Other,
+    Lead::Other,
+    Lead::Other,
+    Lead::Other,
+    Lead::Other,
+    Lead::Other,
+    Lead::Other,
+    Lead::Other,
+    Lead::Other,
+];
+
+#[tactic(auto, unfolding(crate::specs::Cutting::lead_table))]
+fn leads() -> &'static [Lead]
+    ensures value { result.now ≡ spec.lead_table }
+    ensures len { length result.now ≡ 256 }
+{
+    &LEADS
+}
+
+/// What begins with this byte.
+#[inline(always)]
+pub fn lead_of(byte: u8) -> Lead
+    ensures { result ≡ spec.lead_of byte }
+{
+    leads()[byte as usize]
+}
+
 /// Bytes of one kind, as a piece goes on with them.
 #[derive(Clone, Copy)]
 pub enum Class {
@@ -63,6 +362,7 @@ pub enum Class {
     Digit,
     Figure,
     Line,
+    Comment,
     Continuation,
     Hexadecimal,
     Hash,
@@ -105,20 +405,20 @@ fn is_second(b: u8) -> bool
     bytes()[b as usize] == 2
 }
 
-/// Whether a word begins with a byte.
-#[inline(always)]
-pub fn is_letter(b: u8) -> bool
-    ensures { result ≡ is_letter b }
-{
-    b.is_ascii_alphabetic() || b == b'_'
-}
-
 /// Whether a byte is white space.
 #[inline(always)]
 pub fn is_space(b: u8) -> bool
     ensures { result ≡ spec.is_space b }
 {
     b == b' ' || (9 <= b && b <= 13)
+}
+
+/// Whether a byte begins or continues a piece that is no white space, for sure.
+#[inline(always)]
+pub fn is_usual(b: u8) -> bool
+    ensures { result ≡ true → (spec.is_space b ≡ false) × (b < 128) }
+{
+    bytes()[b as usize] != 0
 }
 
 // Whether a byte takes a column, and stands for itself in a string.
@@ -139,6 +439,7 @@ pub fn is_in(class: Class, b: u8) -> bool
         Class::Digit => b.is_ascii_digit(),
         Class::Figure => b.is_ascii_digit() || b == b'_',
         Class::Line => !(b == b'\n'),
+        Class::Comment => !(b == b'/' || b == b'*'),
         Class::Continuation => 128 <= b && b < 192,
         Class::Hexadecimal => b.is_ascii_hexdigit(),
         Class::Hash => b == b'#',

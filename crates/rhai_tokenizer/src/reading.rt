@@ -1,6 +1,6 @@
 //! One turn of the reading of a text: a piece is read, and its token joins.
 
-ghost use Rattle.std.specs.Prelude.{◌≡◌, ◌<◌, ◌≤◌, ◌+◌, ◌^◌, [], true, false, length, take};
+ghost use Rattle.std.specs.Prelude.{◌≡◌, ◌<◌, ◌≤◌, ◌+◌, ◌^◌, [], ◌∷◌, None, true, false, length, take};
 ghost use Rattle.std.specs.Prelude.{slice_index, reverse, IfOk, IfSome};
 ghost use Rattle.std.specs.Prelude.{drop, option_map, not, ◌&&◌, ◌==◌};
 ghost use Rattle.std.specs.List.{list_all};
@@ -9,20 +9,21 @@ ghost use Rattle.rhai_lower.specs.Texts.{Text};
 ghost use Rattle.rhai_tokenizer.specs.Bytes.{begins};
 ghost use Rattle.rhai_tokenizer.specs.Cutting.{first_class};
 ghost use Rattle.rhai_tokenizer.specs.Cutting as spec;
-ghost use Rattle.rhai_tokenizer.specs.CuttingMeanings.{is_plain, is_sign};
-ghost use Rattle.rhai_tokenizer.specs.Meanings.{at_start, operand_then};
+ghost use Rattle.rhai_tokenizer.specs.CuttingMeanings.{IsAlone, IsPair, is_plain};
+ghost use Rattle.rhai_tokenizer.specs.Meanings.{at_start, brace_of_symbol, operand_then, text_after};
 ghost use Rattle.rhai_tokenizer.specs.Places.{past};
-ghost use Rattle.rhai_tokenizer.specs.Turns.{IsFront, IsIn, IsPlace, IsRead, IsReady, IsTurn, Joins, before_of, due};
+ghost use Rattle.rhai_tokenizer.specs.Turns.{IsFront, IsIn, IsPlace, IsQuiet, IsRead};
+ghost use Rattle.rhai_tokenizer.specs.Turns.{IsReady, IsTurn, Joins, before_of, due};
 ghost use Rattle.rhai_tokenizer.specs.Turns.{found_of};
 ghost use Rattle.rhai_tokenizer.specs.Turns.{left, place_of};
 
 use crate::blanks::blanks_in;
-use crate::braces::{follow, opens_after, symbol_brace};
-use crate::class::{Class, First, first_class, is_letter, is_space};
+use crate::braces::{Brace, follow, opens_after, symbol_brace};
+use crate::class::{Class, First, Lead, first_class, lead_of};
 use crate::front::{Front, Tools, front_of};
-use crate::lexer::{Kind, number_piece, run_len, short_symbol, sign};
+use crate::lexer::{Kind, begins, number_piece, pair_symbol, run_len, sign};
 use crate::limits::Limits;
-use crate::meaning::{fixed_symbol, integer_token, operand_after, word_token};
+use crate::meaning::{fixed_symbol, integer_token, operand_after, usual_word};
 use crate::place::{FIRST_LINE, Line, Place, line_of, place_in, position};
 use crate::string_token::string_token;
 use crate::table::{Fixed, Meaning, fixed_token};
@@ -99,14 +100,16 @@ fn push(
     ensures joined { IfOk result (λ o. Joins out.old out.new in_text span.start span.stop
         (found_of place (Some token))) }
 {
+    out.entries.reserve(1)?;
+    out.spans.reserve(1)?;
     let next = operand_after(operand, &token);
     let pos = position(place);
-    out.entries.push(Entry {
+    out.entries.push_reserved(Entry {
         token,
         pos,
         text: in_text,
-    })?;
-    out.spans.push(span)?;
+    });
+    out.spans.push_reserved(span);
     Ok(next)
 }
 
@@ -180,34 +183,18 @@ fn any(reading: &mut Reading, limits: Limits, rest: &str) -> Result<usize, Alloc
     add(reading, limits, rest, piece)
 }
 
-// Whether a text begins with white space of one byte.
+// Passes the white space at the front of a text. Gives its length.
 #[inline(always)]
-fn begins_with_space(rest: &str) -> bool
-    ensures { result ≡ begins spec.is_space rest.now }
+fn blank(reading: &mut Reading, rest: &str) -> usize
+    requires ready { IsReady reading.old rest.now }
+    requires quiet { IsQuiet reading.old }
+    requires class { First.Space ≡ first_class (slice_index rest.now 0) }
+    ensures turn { (limits : Limits) → IsTurn limits reading.old reading.new rest.now result }
+    ensures quiet { IsQuiet reading.new }
 {
-    match rest.as_bytes() {
-        [b, ..] => is_space(*b),
-        [] => false,
-    }
-}
-
-// Passes white space of single bytes, and what follows it of other white space.
-#[inline(always)]
-fn past_blanks<'a>(reading: &mut Reading, rest: &'a str) -> &'a str
-    requires { IsReady reading.old rest.now }
-    ensures read { (limits : Limits) → IsRead limits reading.old reading.new rest.now result.now }
-    ensures in_text { reading.new.in_text ≡ reading.old.in_text }
-    ensures shorter { length result.now ≤ length rest.now }
-{
-    if reading.in_text || !begins_with_space(rest) {
-        return rest;
-    }
     let len = blanks_in(&mut reading.line, reading.at, rest.as_bytes());
-    reading.opens = false;
-    reading.is_hashed = false;
     reading.at += len;
-    let (_, more) = rest.split_at(len);
-    more
+    len
 }
 
 // A token of so many bytes that each take a column joins.
@@ -224,7 +211,7 @@ fn take(reading: &mut Reading, token: Token, len: usize) -> Result<(), AllocErro
         → place_of reading.new ≡ past (place_of reading.old) t) }
     ensures at { IfOk result (λ done. reading.new.at ≡ reading.old.at + len) }
     ensures placed { IfOk result (λ done. IsIn reading.new.line reading.new.at) }
-    ensures hash { IfOk result (λ done. reading.new.is_hashed ≡ false) }
+    ensures hash { reading.new.is_hashed ≡ reading.old.is_hashed }
     ensures braces { reading.new.braces ≡ reading.old.braces }
     ensures in_text { reading.new.in_text ≡ reading.old.in_text }
     ensures opens { reading.new.opens ≡ reading.old.opens }
@@ -234,34 +221,41 @@ fn take(reading: &mut Reading, token: Token, len: usize) -> Result<(), AllocErro
     let place = place_in(reading.line, start);
     let span = Span { start, stop };
     reading.operand = push(&mut reading.out, token, reading.operand, false, place, span)?;
-    reading.is_hashed = false;
     reading.at = stop;
     Ok(())
 }
 
-// A word.
+// A word. Gives its length, or none where it is refused.
 #[inline(always)]
-fn word(reading: &mut Reading, rest: &str) -> Result<usize, AllocError>
+fn word(reading: &mut Reading, rest: &str) -> Result<Option<usize>, AllocError>
     requires ready { IsReady reading.old rest.now }
-    requires code { reading.old.in_text ≡ false }
+    requires quiet { IsQuiet reading.old }
     requires class { First.Letter ≡ first_class (slice_index rest.now 0) }
-    ensures { IfOk result (λ n. (limits : Limits) → IsTurn limits reading.old reading.new rest.now n) }
+    ensures turn { IfOk result (λ o. IfSome o (λ n. (limits : Limits)
+        → IsTurn limits reading.old reading.new rest.now n)) }
+    ensures quiet { IfOk result (λ o. IsQuiet reading.new) }
+    ensures none { IfOk result (λ o. o ≡ None → reading.new ≡ reading.old) }
 {
     let len = 1 + run_len(Class::Word, &rest.as_bytes()[1..]);
     let (text, _) = rest.split_at(len);
-    let token = word_token(reading.tools.alloc, &mut reading.tools.names, text)?;
-    take(reading, token, len)?;
-    reading.opens = false;
-    Ok(len)
+    match usual_word(reading.tools.alloc, &mut reading.tools.names, text)? {
+        Some(token) => {
+            take(reading, token, len)?;
+            Ok(Some(len))
+        }
+        None => Ok(None),
+    }
 }
 
-// An integer.
+// An integer in the base ten. Gives its length, or 0 where it is another one.
 #[inline(never)]
-fn number(reading: &mut Reading, limits: Limits, rest: &str) -> Result<usize, AllocError>
+fn number(reading: &mut Reading, rest: &str) -> Result<usize, AllocError>
     requires ready { IsReady reading.old rest.now }
-    requires code { reading.old.in_text ≡ false }
+    requires quiet { IsQuiet reading.old }
     requires class { First.Digit ≡ first_class (slice_index rest.now 0) }
-    ensures { IfOk result (λ n. IsTurn limits reading.old reading.new rest.now n) }
+    ensures turn { IfOk result (λ n. 0 < n → (limits : Limits) → IsTurn limits reading.old reading.new rest.now n) }
+    ensures quiet { IfOk result (λ n. IsQuiet reading.new) }
+    ensures none { IfOk result (λ n. n ≡ 0 → reading.new ≡ reading.old) }
 {
     let bytes = rest.as_bytes();
     let (kind, len) = number_piece(bytes[0], &bytes[1..]);
@@ -270,10 +264,9 @@ fn number(reading: &mut Reading, limits: Limits, rest: &str) -> Result<usize, Al
             let text = &bytes[..len];
             let token = integer_token(reading.tools.alloc, false, text)?;
             take(reading, token, len)?;
-            reading.opens = false;
             Ok(len)
         }
-        _ => any(reading, limits, rest),
+        _ => Ok(0),
     }
 }
 
@@ -295,7 +288,7 @@ fn fixed_of(kind: Kind) -> Option<Fixed>
 #[inline(always)]
 fn symbol(reading: &mut Reading, limits: Limits, rest: &str) -> Result<usize, AllocError>
     requires ready { IsReady reading.old rest.now }
-    requires code { reading.old.in_text ≡ false }
+    requires quiet { IsQuiet reading.old }
     requires class { First.Other ≡ first_class (slice_index rest.now 0) }
     ensures { IfOk result (λ n. IsTurn limits reading.old reading.new rest.now n) }
 {
@@ -306,30 +299,86 @@ fn symbol(reading: &mut Reading, limits: Limits, rest: &str) -> Result<usize, Al
             let text = &bytes[..len];
             let token = fixed_symbol(reading.operand, fixed, text);
             take(reading, token, len)?;
-            reading.in_text = follow(&mut reading.braces, symbol_brace(text), reading.opens)?;
-            reading.opens = false;
+            reading.in_text = follow(&mut reading.braces, symbol_brace(text), false)?;
             Ok(len)
         }
         None => any(reading, limits, rest),
     }
 }
 
-// A symbol of one byte.
+// A symbol of one byte that changes no braces.
 #[inline(always)]
-fn lone_symbol(reading: &mut Reading, rest: &str, fixed: Fixed) -> Result<usize, AllocError>
+fn lone(reading: &mut Reading, rest: &str, fixed: Fixed) -> Result<usize, AllocError>
     requires ready { IsReady reading.old rest.now }
-    requires code { reading.old.in_text ≡ false }
-    requires class { First.Other ≡ first_class (slice_index rest.now 0) }
-    requires symbol { (Kind.Symbol (Meaning.Plain fixed), 1)
-        ≡ spec.sign_cut (slice_index rest.now 0) (drop 1 rest.now) }
-    requires sign { is_sign (slice_index rest.now 0) ≡ false }
-    ensures { IfOk result (λ n. (limits : Limits) → IsTurn limits reading.old reading.new rest.now n) }
+    requires quiet { IsQuiet reading.old }
+    requires alone { IsAlone (slice_index rest.now 0) (drop 1 rest.now) fixed }
+    requires brace { brace_of_symbol (slice_index rest.now 0 ∷ []) ≡ Brace.Stays }
+    ensures turn { IfOk result (λ n. (limits : Limits) → IsTurn limits reading.old reading.new rest.now n) }
+    ensures quiet { IfOk result (λ n. IsQuiet reading.new) }
 {
-    let text = &rest.as_bytes()[..1];
+    let _rest = rest;
     take(reading, fixed_token(fixed), 1)?;
-    reading.in_text = follow(&mut reading.braces, symbol_brace(text), reading.opens)?;
-    reading.opens = false;
     Ok(1)
+}
+
+// A symbol of two bytes that is no sign and changes no braces.
+#[inline(always)]
+fn pair(reading: &mut Reading, rest: &str, fixed: Fixed) -> Result<usize, AllocError>
+    requires ready { IsReady reading.old rest.now }
+    requires quiet { IsQuiet reading.old }
+    requires pair { IsPair (slice_index rest.now 0) (drop 1 rest.now) fixed }
+    ensures turn { IfOk result (λ n. (limits : Limits) → IsTurn limits reading.old reading.new rest.now n) }
+    ensures quiet { IfOk result (λ n. IsQuiet reading.new) }
+{
+    let _rest = rest;
+    take(reading, fixed_token(fixed), 2)?;
+    Ok(2)
+}
+
+// A `{`.
+#[inline(always)]
+fn brace(reading: &mut Reading, rest: &str) -> Result<usize, AllocError>
+    requires ready { IsReady reading.old rest.now }
+    requires quiet { IsQuiet reading.old }
+    requires brace { begins (λ c. c == 123) rest.now ≡ true }
+    ensures turn { IfOk result (λ n. (limits : Limits) → IsTurn limits reading.old reading.new rest.now n) }
+    ensures quiet { IfOk result (λ n. IsQuiet reading.new) }
+{
+    let _rest = rest;
+    take(reading, Token::LeftBrace, 1)?;
+    reading.in_text = follow(&mut reading.braces, Brace::Opens, false)?;
+    Ok(1)
+}
+
+// Whether a text goes on after a `}`.
+#[inline(always)]
+fn ends_block(braces: &[bool]) -> bool
+    ensures { result ≡ text_after Brace.Closes (reverse braces.now) }
+{
+    match braces.last() {
+        Some(text) => *text,
+        None => false,
+    }
+}
+
+// A `}` after which no text goes on. Gives its length, or none where one does.
+#[inline(always)]
+fn end(reading: &mut Reading, rest: &str) -> Result<Option<usize>, AllocError>
+    requires ready { IsReady reading.old rest.now }
+    requires quiet { IsQuiet reading.old }
+    requires brace { begins (λ c. c == 125) rest.now ≡ true }
+    ensures turn { IfOk result (λ o. IfSome o (λ n. (limits : Limits)
+        → IsTurn limits reading.old reading.new rest.now n)) }
+    ensures quiet { IfOk result (λ o. IsQuiet reading.new) }
+    ensures none { IfOk result (λ o. o ≡ None → reading.new ≡ reading.old) }
+{
+    let _rest = rest;
+    if ends_block(&reading.braces) {
+        return Ok(None);
+    }
+    take(reading, Token::RightBrace, 1)?;
+    reading.in_text = follow(&mut reading.braces, Brace::Closes, false)?;
+    Ok(Some(1))
 }
 
 // Whether a string ends here, with no further mark.
@@ -348,7 +397,7 @@ fn ends_string(z: &[u8]) -> bool
 #[inline(never)]
 fn text_piece(reading: &mut Reading, limits: Limits, rest: &str) -> Result<usize, AllocError>
     requires ready { IsReady reading.old rest.now }
-    requires code { reading.old.in_text ≡ false }
+    requires quiet { IsQuiet reading.old }
     requires class { First.Quote ≡ first_class (slice_index rest.now 0) }
     ensures { IfOk result (λ n. IsTurn limits reading.old reading.new rest.now n) }
 {
@@ -361,7 +410,6 @@ fn text_piece(reading: &mut Reading, limits: Limits, rest: &str) -> Result<usize
     let (text, _) = more.split_at(n);
     let token = string_token(reading.tools.alloc, &mut reading.tools.names, limits, text)?;
     take(reading, token, n + 2)?;
-    reading.opens = false;
     Ok(n + 2)
 }
 
@@ -369,15 +417,108 @@ fn text_piece(reading: &mut Reading, limits: Limits, rest: &str) -> Result<usize
 #[inline(always)]
 fn other(reading: &mut Reading, limits: Limits, rest: &str) -> Result<usize, AllocError>
     requires ready { IsReady reading.old rest.now }
-    requires code { reading.old.in_text ≡ false }
+    requires quiet { IsQuiet reading.old }
     ensures { IfOk result (λ n. IsTurn limits reading.old reading.new rest.now n) }
 {
     match first_class(rest.as_bytes()[0]) {
-        First::Digit => number(reading, limits, rest),
         First::Other => symbol(reading, limits, rest),
         First::Quote => text_piece(reading, limits, rest),
         _ => any(reading, limits, rest),
     }
+}
+
+// Reads the piece at the front of a text, where it is white space, a word, an integer in the base ten, or a symbol that
+// is met often, and no text goes on after it. Gives its length, or none.
+#[inline(always)]
+fn usual(reading: &mut Reading, rest: &str) -> Result<Option<usize>, AllocError>
+    requires ready { IsReady reading.old rest.now }
+    requires quiet { IsQuiet reading.old }
+    ensures turn { IfOk result (λ o. IfSome o (λ n. (limits : Limits)
+        → IsTurn limits reading.old reading.new rest.now n)) }
+    ensures quiet { IfOk result (λ o. IsQuiet reading.new) }
+    ensures none { IfOk result (λ o. o ≡ None → reading.new ≡ reading.old) }
+{
+    let bytes = rest.as_bytes();
+    let first = bytes[0];
+    match lead_of(first) {
+        Lead::Word => word(reading, rest),
+        Lead::Blank => Ok(Some(blank(reading, rest))),
+        Lead::Digit => match number(reading, rest)? {
+            0 => Ok(None),
+            len => Ok(Some(len)),
+        },
+        Lead::Brace => Ok(Some(brace(reading, rest)?)),
+        Lead::End => end(reading, rest),
+        Lead::Closer(fixed) => Ok(Some(lone(reading, rest, fixed)?)),
+        Lead::Sign(fixed) if !begins(Class::Second, &bytes[1..]) => {
+            Ok(Some(lone(reading, rest, fixed)?))
+        }
+        Lead::Sign(_) => match pair_symbol(first, &bytes[1..]) {
+            Some(fixed) => Ok(Some(pair(reading, rest, fixed)?)),
+            None => Ok(None),
+        },
+        Lead::Other => Ok(None),
+    }
+}
+
+// Reads such pieces until another one comes. Gives what is left.
+#[inline(always)]
+fn usuals<'a>(reading: &mut Reading, text: &'a str) -> Result<&'a str, AllocError>
+    requires ready { IsReady reading.old text.now }
+    requires quiet { IsQuiet reading.old }
+    ensures read { IfOk result (λ more. (limits : Limits)
+        → IsRead limits reading.old reading.new text.now more.now) }
+    ensures quiet { IfOk result (λ more. IsQuiet reading.new) }
+    ensures shorter { IfOk result (λ more. length more.now ≤ length text.now) }
+{
+    let mut rest = text;
+    while is_due(false, rest) {
+        match usual(reading, rest)? {
+            Some(len) => {
+                let (_, more) = rest.split_at(len);
+                rest = more;
+            }
+            None => return Ok(rest),
+        }
+    }
+    Ok(rest)
+}
+
+// Whether the next piece depends on no more than the bytes with which it begins.
+#[inline(always)]
+fn is_quiet(reading: &Reading) -> bool
+    ensures { result ≡ true → IsQuiet reading.now }
+{
+    !(reading.in_text || (reading.opens || reading.is_hashed))
+}
+
+// Whether a block begins, which may be one of an interpolation.
+#[inline(always)]
+fn begins_block(reading: &Reading, rest: &str) -> bool
+    ensures code { result ≡ true → reading.now.in_text ≡ false }
+    ensures hash { result ≡ true → reading.now.is_hashed ≡ false }
+    ensures brace { result ≡ true → begins (λ c. c == 123) rest.now ≡ true }
+{
+    match rest.as_bytes() {
+        [first, ..] => *first == b'{' && !(reading.in_text || reading.is_hashed),
+        [] => false,
+    }
+}
+
+// The `{` of a block, which may be one of an interpolation.
+#[inline(always)]
+fn block(reading: &mut Reading, rest: &str) -> Result<usize, AllocError>
+    requires ready { IsReady reading.old rest.now }
+    requires code { reading.old.in_text ≡ false }
+    requires hash { reading.old.is_hashed ≡ false }
+    requires brace { begins (λ c. c == 123) rest.now ≡ true }
+    ensures { IfOk result (λ n. (limits : Limits) → IsTurn limits reading.old reading.new rest.now n) }
+{
+    let _rest = rest;
+    take(reading, Token::LeftBrace, 1)?;
+    reading.in_text = follow(&mut reading.braces, Brace::Opens, reading.opens)?;
+    reading.opens = false;
+    Ok(1)
 }
 
 // Reads the piece at the front of a text, where one is due. Gives its length.
@@ -386,17 +527,28 @@ fn piece(reading: &mut Reading, limits: Limits, rest: &str) -> Result<usize, All
     requires { IsReady reading.old rest.now }
     ensures { IfOk result (λ n. IsTurn limits reading.old reading.new rest.now n) }
 {
-    if reading.in_text {
-        return any(reading, limits, rest);
+    if is_quiet(reading) {
+        other(reading, limits, rest)
+    } else if begins_block(reading, rest) {
+        block(reading, rest)
+    } else {
+        any(reading, limits, rest)
     }
-    let bytes = rest.as_bytes();
-    let first = bytes[0];
-    if is_letter(first) {
-        return word(reading, rest);
-    }
-    match short_symbol(first, &bytes[1..]) {
-        Some(fixed) => lone_symbol(reading, rest, fixed),
-        None => other(reading, limits, rest),
+}
+
+// Reads usual pieces, where they are told by the bytes with which they begin alone. Gives what is left.
+#[inline(always)]
+fn past_usuals<'a>(reading: &mut Reading, rest: &'a str) -> Result<&'a str, AllocError>
+    requires { IsReady reading.old rest.now }
+    ensures read { IfOk result (λ more. (limits : Limits)
+        → IsRead limits reading.old reading.new rest.now more.now) }
+    ensures in_text { IfOk result (λ more. reading.new.in_text ≡ reading.old.in_text) }
+    ensures shorter { IfOk result (λ more. length more.now ≤ length rest.now) }
+{
+    if is_quiet(reading) {
+        usuals(reading, rest)
+    } else {
+        Ok(rest)
     }
 }
 
@@ -430,15 +582,15 @@ fn after_piece<'a>(
     Ok(more)
 }
 
-/// Reads white space at the front of a text, and the piece after it, where one is due. Gives what is left. Returns
-/// `AllocError` if memory runs out.
+/// Reads the usual pieces at the front of a text, and the piece after them, where one is due. Gives what is left.
+/// Returns `AllocError` if memory runs out.
 #[inline(always)]
 pub fn turn<'a>(reading: &mut Reading, limits: Limits, rest: &'a str) -> Result<&'a str, AllocError>
     requires { IsReady reading.old rest.now }
     ensures read { IfOk result (λ more. IsRead limits reading.old reading.new rest.now more.now) }
     ensures falls { IfOk result (λ more. left reading.new.in_text more.now < left reading.old.in_text rest.now) }
 {
-    let next = past_blanks(reading, rest);
+    let next = past_usuals(reading, rest)?;
     if !is_due(reading.in_text, next) {
         return Ok(next);
     }

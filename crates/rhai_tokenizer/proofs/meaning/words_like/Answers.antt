@@ -1,0 +1,14 @@
+use Rattle.std.proofs.Common.{◌≤◌, arith, get_or}
+use Rattle.rhai_tokenizer.specs.declared.table.TheConstants.{WORD_PLACES}
+use Rattle.rhai_tokenizer.proofs.WordLemmas.{key_part, place_within}
+use Rattle.rhai_tokenizer.proofs.meaning.words_like.Goals as goal
+
+pub slice_bounds-result-end : goal.slice_bounds-result-end
+slice_bounds-result-end c =
+    let w : get_or WORD_PLACES c.word_key.result 0 ≤ 63 = place_within c.word_key.result c.word_key.ensures.within in
+    rw c.word_places.ensures.value (omega (arith, w, c.words.ensures.len))
+
+pub returns : goal.returns
+returns c = key_part _ c.words.result.now c.word_places.result.now c.word_key.result c.saturating_sub-start.result
+    c.args.text.now c.words.ensures.value c.word_places.ensures.value c.word_key.ensures.value
+    c.saturating_sub-start.ensures
