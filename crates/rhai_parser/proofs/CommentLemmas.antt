@@ -12,7 +12,7 @@ use Rattle.rhai_grammar.specs.Cursors.{left}
 use Rattle.rhai_grammar.specs.Delivered.{is_memory}
 use Rattle.rhai_grammar.specs.Statements.{is_comment, statement_start}
 use Rattle.rhai_grammar.specs.declared.role.StatementStart.TheVariants as start
-use Rattle.rhai_grammar.specs.Comments.{comment_of}
+use Rattle.rhai_grammar.specs.Comments.{comment_of as comment_at}
 use Rattle.rhai_reading.specs.Reading as reading
 use Rattle.rhai_reading.specs.Reading.{Call, Comments, Fail, FunctionStatement, Goal, Peek, Ret, Statement, Take, comments_at, documented, documented_at, fn_on, statement_at}
 use Rattle.rhai_reading.specs.Running as R
@@ -26,7 +26,7 @@ comments_push cs c = map_push comment_of cs c
 
 -- one more is taken
 pub comment_taken : (before : List Comment) (s t : Progress) (x : Comment) → is_memory (next_item s).lexeme ≡ false
-    → is_comment (next_item s).lexeme ≡ true → x ≡ comment_of (next_item s).lexeme (next_item s).at → t ≡ after_take s
+    → is_comment (next_item s).lexeme ≡ true → x ≡ comment_at (next_item s).lexeme (next_item s).at → t ≡ after_take s
     → left t.cursor.tokens + 1 ≤ left s.cursor.tokens → result_of (Comments before) s ≡ result_of (Comments (before ++ x ∷ [])) t
 comment_taken before s t x readable comment same took short =
     let call = guarded (Comments before) s in
@@ -34,8 +34,8 @@ comment_taken before s t x readable comment same took short =
     let p = (next_item s).at in
     step_comments before s
     ∙ ap (λ m. if m then R.Refused out_of_memory (after_peek s) else exec call (comments_at before l p) (after_peek s)) readable
-    ∙ ap (λ b. exec call (if b then Take (Call (Comments (before ++ comment_of l p ∷ [])) Ret) else Ret before) (after_peek s)) comment
-    ∙ ap (λ m. if m then R.Refused out_of_memory (after_peek s) else exec call (Call (Comments (before ++ comment_of l p ∷ [])) Ret) (after_take s)) readable
+    ∙ ap (λ b. exec call (if b then Take (Call (Comments (before ++ comment_at l p ∷ [])) Ret) else Ret before) (after_peek s)) comment
+    ∙ ap (λ m. if m then R.Refused out_of_memory (after_peek s) else exec call (Call (Comments (before ++ comment_at l p ∷ [])) Ret) (after_take s)) readable
     ∙ ap (λ (y : Comment). exec call (Call (Comments (before ++ y ∷ [])) Ret) (after_take s)) (sym same)
     ∙ ap (λ (u : Progress). exec call (Call (Comments (before ++ x ∷ [])) Ret) u) (sym took)
     ∙ and_then_done (call (Comments (before ++ x ∷ [])) t)
@@ -71,7 +71,7 @@ function_starts c d w here s looked readable begins context stands look =
 -- Doc comments are taken where a statement begins, of which the first one is x, and a token is next that is seen.
 pub record Documented (c : Context) (x : Comment) (cs : List Comment) (s old taken read : Progress) : Type 0 where
   pub readable : is_memory (next_item old).lexeme ≡ false
-  pub comment : x ≡ comment_of (next_item old).lexeme (next_item old).at
+  pub comment : x ≡ comment_at (next_item old).lexeme (next_item old).at
   pub took : taken ≡ after_take old
   pub short : left taken.cursor.tokens + 1 ≤ left old.cursor.tokens
   pub within : left old.cursor.tokens ≤ left s.cursor.tokens
@@ -84,7 +84,7 @@ pub comments_read : (h : Goal) (c : Context) (w : Live) (at : Position) (x : Com
     ≡ exec (guarded h s) (documented_at c w x.at cs (next_item read).at (statement_start c (next_item read).lexeme)) (after_peek read)
 comments_read h c w at x cs s old taken read d =
     let call = guarded h s in
-    let y = comment_of (next_item old).lexeme (next_item old).at in
+    let y = comment_at (next_item old).lexeme (next_item old).at in
     ap (λ m. if m then R.Refused out_of_memory (after_peek old) else exec call (Take (documented c w y)) (after_peek old)) d.readable
     ∙ ap (λ m. if m then R.Refused out_of_memory (after_peek old) else exec call (documented c w y) (after_take old)) d.readable
     ∙ ap (λ (z : Comment). exec call (documented c w z) (after_take old)) (sym d.comment)

@@ -16,7 +16,7 @@ use Rattle.rhai_grammar.specs.Cursors.{Cursor}
 use Rattle.rhai_grammar.specs.Contexts.{Context, Live}
 use Rattle.rhai_grammar.specs.Demands.{Demands}
 use Rattle.rhai_grammar.specs.Libraries.{Library}
-use Rattle.rhai_grammar.specs.Promises.{HasRead, Returns, UnlessMemory}
+use Rattle.rhai_grammar.specs.Promises.{HasRead, ReadsWhole, Returns, UnlessMemory, Written}
 use Rattle.rhai_grammar.specs.declared.key.FnKey.{FnKey}
 use Rattle.rhai_base.specs.Libraries.{Begins, Grows, library_of}
 use Rattle.rhai_parser.specs.Scripts.{Accepts, Constants, IsMadeOf, Makes, IsScript, IsScriptOf, ReadsAst, ReadsExpression, ReadsScript, function_views, functions_in}
@@ -80,6 +80,15 @@ pub read_so : (s left : Cursor) → HasRead s left false → HasRead s left true
 read_so s left h =
     record { taken = h.taken; saw = h.saw; modes = h.modes; mode = inl h.mode; memory = h.memory }
 
+-- memory ran out
+pub reads_none : {X : Type 0} (g : Goal) (Is : Written g → X → Type 0) (before after : Library) (s left : Cursor) (e : ParseError)
+    → is_for_memory e ≡ true → ReadsWhole g Is before after s left (Err e)
+reads_none g Is before after s left e out = record {
+  accepted = tt;
+  only = λ f other written. out;
+  refused = λ told. absurd (let w = sym out ∙ told in cc);
+}
+
 -- ---- what was seen
 
 module _ {F O X : Type 0} {g : Goal} {whole : F → Demands} {stopping : O → Demands} {tree : F → Val g}
@@ -95,7 +104,7 @@ module _ {F O : Type 0} {g : Goal} {whole : F → Demands} {stopping : O → Dem
       → HasRead s.cursor left.cursor true
   has_read_fails e fails other = M.refused_read E s left (refusal_of e) (fails.0 other) (memory_cause e.0 ∙ other)
 
--- ---- the two entries
+-- ---- the two kinds of entry points
 
 module _ (makes : Makes) (constants : Constants) (level : OptimizationLevel) (c : Context) (live : Live) (s left : Progress) where
   pub expression_done : (x : Node) (result : Result AST ParseError) → IsNew s → result_of (Whole c live) s ≡ Done x left
@@ -179,11 +188,8 @@ module _ (c : Context) (live : Live) (before after : Library) (s left : Cursor) 
     only = λ f other written. (let w = reads.only f other written in (made read f.0 (Ok script) w.0 so out, w.1));
     refused = tt;
   }
-  ast_done read (Err e) reads so out = record {
-    accepted = tt;
-    only = λ f other written. out;
-    refused = λ told. absurd (let w = sym out ∙ told in cc);
-  }
+  ast_done read (Err e) reads so out =
+      reads_none (Script c live) (λ f script. IsMadeOf makes constants level f.0.0 after script) before after s left e out
 
   pub ast_fails : (e : ParseError) → ReadsScript c live before after s left (Err e) slots modules
       → ReadsAst makes c live before after s left constants level (Err e)
