@@ -7,6 +7,20 @@ use Rattle.rhai_parser.proofs.reader.Reader.parse_arm.Goals as goal
 use Rattle.rhai_parser.proofs.Given.{gives_so}
 use Rattle.rhai_parser.proofs.ConstructReaders as rule
 
+pub returns-in_err-match_token-clause-reads : goal.returns-in_err-match_token-clause-reads
+returns-in_err-match_token-clause-reads g c = record {
+  goes_on = grind arith;
+  stays = grind arith;
+  reads = grind (arith, rule.parse_arm);
+}
+
+pub returns-in_err-does-clause-reads : goal.returns-in_err-does-clause-reads
+returns-in_err-does-clause-reads g c = record {
+  goes_on = grind arith;
+  stays = grind arith;
+  reads = grind (arith, rule.parse_arm);
+}
+
 pub returns-clause-reads : goal.returns-clause-reads
 returns-clause-reads g c = record {
   goes_on = grind arith;

@@ -6,6 +6,13 @@ use Rattle.rhai_parser.proofs.reader.Reader.parse_expr_stmt.Goals as goal
 use Rattle.rhai_parser.proofs.Given.{gives_so}
 use Rattle.rhai_parser.proofs.StmtReaders as rule
 
+pub returns-in_err-value-clause-reads : goal.returns-in_err-value-clause-reads
+returns-in_err-value-clause-reads g c = record {
+  goes_on = grind arith;
+  stays = grind arith;
+  reads = grind (arith, rule.parse_expr_stmt);
+}
+
 pub returns-clause-reads : goal.returns-clause-reads
 returns-clause-reads g c = record {
   goes_on = grind arith;
