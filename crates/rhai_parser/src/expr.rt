@@ -14,7 +14,7 @@ ghost use Rattle.rhai_base.specs.OperandEnds.{ends_operand};
 ghost use Rattle.rhai_reading.specs.Running.{Done, Gives, Progress, next_item, exec, guarded, after_peek, result_of};
 ghost use Rattle.rhai_parser.specs.Frames.{context_of, live_of};
 ghost use Rattle.rhai_parser.specs.Operands.{operand_ends};
-ghost use Rattle.rhai_parser.specs.Readers.{Covers, GoesOn, ReadsAs, arguments, expression, items, links};
+ghost use Rattle.rhai_parser.specs.Readers.{Covers, GoesOn, Reads, ReadsAs, arguments, expression, items, links};
 ghost use Rattle.rhai_parser.specs.Readers.{operand, postfix};
 ghost use Rattle.rhai_parser.specs.Readers.{right_operand, state_of, views_of};
 ghost use Rattle.rhai_parser.specs.Heights.{Stays};
@@ -164,8 +164,10 @@ impl<R: LentReaders> Reader<'_, R> {
     ) -> ParseResult<Chain>
         requires lent { Covers (R.lent self.now.readers) (right_operand place self.now.engine.now frame.now settings)
             shared.old }
-        ensures { ReadsAs self.now.engine.now frame.now settings 4 (right_operand place) chain_view shared.old result
-            shared.new }
+        ensures goes_on { GoesOn shared.old shared.new }
+        ensures stays { Stays self.now.engine.now frame.now settings 4 shared.old shared.new }
+        ensures reads { Reads (right_operand place self.now.engine.now frame.now settings) chain_view shared.old
+            result shared.new }
     {
         let alloc = self.engine.alloc();
         let (token, pos) = peek(shared.input)?;
@@ -221,7 +223,10 @@ impl<R: LentReaders> Reader<'_, R> {
         settings: ParseSettings,
     ) -> ParseResult<Chain>
         requires lent { Covers (R.lent self.now.readers) (operand self.now.engine.now frame.now settings) shared.old }
-        ensures { ReadsAs self.now.engine.now frame.now settings 3 operand chain_view shared.old result shared.new }
+        ensures goes_on { GoesOn shared.old shared.new }
+        ensures stays { Stays self.now.engine.now frame.now settings 3 shared.old shared.new }
+        ensures reads { Reads (operand self.now.engine.now frame.now settings) chain_view shared.old result
+            shared.new }
     {
         let (token, _) = peek(shared.input)?;
         if !is_sign(token) {

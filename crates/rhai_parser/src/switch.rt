@@ -8,7 +8,8 @@ ghost use Rattle.rhai_lower.specs.View.{statement_view, view};
 ghost use Rattle.rhai_grammar.specs.Cursors.{left};
 ghost use Rattle.rhai_grammar.specs.Switches.{nothing_collected};
 ghost use Rattle.rhai_grammar.specs.declared.role.Construct.TheVariants.{Switch};
-ghost use Rattle.rhai_parser.specs.Readers.{Covers, ReadsAs, action, arm, arms, case, case_guard, cases};
+ghost use Rattle.rhai_parser.specs.Readers.{Covers, GoesOn, Reads, ReadsAs, action, arm, arms, case, case_guard, cases};
+ghost use Rattle.rhai_parser.specs.Heights.{Stays};
 ghost use Rattle.rhai_parser.specs.Readers.{construct};
 ghost use Rattle.rhai_parser.specs.Readers.{default_arm, state_of};
 ghost use Rattle.rhai_parser.specs.Switches.{CaseFrame, action_view, arm_view, cases_view};
@@ -104,8 +105,11 @@ impl<R: LentReaders> Reader<'_, R> {
         requires in_cases { CaseFrame frame.now in_cases.now }
         requires lent { Covers (R.lent self.now.readers)
             (arm (arms_view before.now) self.now.engine.now frame.now settings) shared.old }
-        ensures reads { ReadsAs self.now.engine.now frame.now settings 3 (arm (arms_view before.now)) arm_view
-            shared.old result shared.new }
+        ensures goes_on { GoesOn shared.old shared.new }
+        ensures stays { Stays self.now.engine.now frame.now settings 3 shared.old shared.new }
+        ensures reads { Reads (arm (arms_view before.now) self.now.engine.now frame.now settings) arm_view
+            shared.old result
+            shared.new }
         ensures shrinks { OnOk result
             (left (state_of shared.new).cursor.tokens + 1 ≤ left (state_of shared.old).cursor.tokens) }
     {
