@@ -76,7 +76,7 @@ same_context engine frame c d e = ap (under engine frame) e
 -- What calls a name is read alike under settings that differ in their position alone.
 pub same_called : (engine : EngineValue) (frame : FrameValue) (c d : ParseSettings) (at : Position) (q r : Bool) (t : Progress)
     → settings_of c ≡ settings_of d → c.pos ≡ at → q ≡ r
-    → nested (result_of (called engine frame c q)) t ≡ nested (result_of (Called (context_of engine frame d) (live_of frame) at r)) t
+    → nested (result_of (called q engine frame c)) t ≡ nested (result_of (Called (context_of engine frame d) (live_of frame) at r)) t
 same_called engine frame c d at q r t same stands is =
     ap (λ k. nested (result_of (Called k (live_of frame) c.pos q)) t) (same_context engine frame c d same)
     ∙ ap (λ p. nested (result_of (Called (context_of engine frame d) (live_of frame) p q)) t) stands

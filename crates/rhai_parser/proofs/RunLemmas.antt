@@ -88,7 +88,7 @@ pub record OneWaits (engine : EngineValue) (frame : FrameValue) (start : ParseSe
   pub less : 1 ≤ start.max_expr_depth → levels_left p.around.settings ≤ levels_left start
   pub refused : (e : Refusal) (t : Progress) → inside (R.Refused e t) ≡ around (R.Refused e t)
   pub joined : (y z : Node) (t : Progress) → left t.cursor.tokens ≤ bound → operator_result (lexeme p.op_token) p.pos (chain_view p.around.lhs) y ≡ Ok z
-      → inside (R.Done y t) ≡ around (result_of (binary_op engine frame p.around.settings p.around.settings.pos p.around.parent z) t)
+      → inside (R.Done y t) ≡ around (result_of (binary_op p.around.settings.pos p.around.parent z engine frame p.around.settings) t)
   pub missed : (y : Node) (e : Refusal) (t : Progress) → operator_result (lexeme p.op_token) p.pos (chain_view p.around.lhs) y ≡ Err e
       → inside (R.Done y t) ≡ around (R.Refused e t)
 
@@ -140,20 +140,20 @@ pub record Awaits (engine : EngineValue) (frame : FrameValue) (start : ParseSett
 
 -- before the first operator
 pub nothing_waits : {engine : EngineValue} {frame : FrameValue} {start c : ParseSettings} {bound : ℕ} {ps : List Pending} {at : Position} (parent : ℕ) (lhs : Node) (s : Progress) → ps ≡ [] → settings_of c ≡ settings_of start → c.pos ≡ at
-    → Awaits engine frame start bound ps (result_of (binary_op engine frame start at parent lhs) s) (result_of (binary_op engine frame c c.pos parent lhs) s)
+    → Awaits engine frame start bound ps (result_of (binary_op at parent lhs engine frame start) s) (result_of (binary_op c.pos parent lhs engine frame c) s)
 unfolding Waits
 nothing_waits {engine} {frame} {start} {c} {bound} {ps} {at} parent lhs s none same there = record {
   inside = λ o. o;
   waits = subst (λ rs. Waits engine frame start bound rs (λ o. o) (λ o. o)) (sym none) refl;
-  same = ap (λ (d : Context). result_of (BinaryOp d (live_of frame) at parent lhs) s) (sym (same_context engine frame c start same)) ∙ ap (λ (q : Position). result_of (binary_op engine frame c q parent lhs) s) (sym there);
+  same = ap (λ (d : Context). result_of (BinaryOp d (live_of frame) at parent lhs) s) (sym (same_context engine frame c start same)) ∙ ap (λ (q : Position). result_of (binary_op q parent lhs engine frame c) s) (sym there);
 }
 
 -- From s the operator of p comes next, and x is the operand after it; t is left, and the run that x begins has these
 -- settings.
 pub record Pushes (engine : EngineValue) (frame : FrameValue) (start settings side : ParseSettings) (parent : ℕ) (lhs : Node) (n : ℕ) (x : Node) (p : Pending) (s s1 t : Progress) : Type 0 where
-  pub found : result_of (binary_op engine frame settings settings.pos parent lhs) s
-      ≡ exec (guarded (binary_op engine frame settings settings.pos parent lhs) s) (Peek (binary_on (context_of engine frame settings) (live_of frame) settings.pos parent lhs n)) s1
-  pub reads : exec (guarded (binary_op engine frame settings settings.pos parent lhs) s) (right_side (context_of engine frame settings) (live_of frame) settings.pos) s1
+  pub found : result_of (binary_op settings.pos parent lhs engine frame settings) s
+      ≡ exec (guarded (binary_op settings.pos parent lhs engine frame settings) s) (Peek (binary_on (context_of engine frame settings) (live_of frame) settings.pos parent lhs n)) s1
+  pub reads : exec (guarded (binary_op settings.pos parent lhs engine frame settings) s) (right_side (context_of engine frame settings) (live_of frame) settings.pos) s1
       ≡ R.Done (lexeme p.op_token, p.pos, x) t
   pub short : left t.cursor.tokens + 1 ≤ left s.cursor.tokens
   pub left_side : chain_view p.around.lhs ≡ lhs
@@ -179,7 +179,7 @@ module _ {engine : EngineValue} {frame : FrameValue} {start settings side : Pars
   behind : R.Out Node → R.Out Node
   behind o = R.and_then o (λ v u. exec call (binary_next (level_up c) w parent lhs (lexeme p.op_token) p.pos v) u)
 
-  side_read : result_of (binary_op engine frame settings settings.pos parent lhs) s ≡ behind (result_of (binary_op engine frame side side.pos n x) t)
+  side_read : result_of (binary_op settings.pos parent lhs engine frame settings) s ≡ behind (result_of (binary_op side.pos n x engine frame side) t)
   unfolding c w call behind
   side_read =
       let same : context_of engine frame side ≡ level_up c = ap (under engine frame) h.side_raised in
@@ -191,7 +191,7 @@ module _ {engine : EngineValue} {frame : FrameValue} {start settings side : Pars
       ∙ ap (λ (d : Context). behind (result_of (BinaryOp d w side.pos n x) t)) (sym same)
 
   joined_so : (y z : Node) (u : Progress) → left u.cursor.tokens ≤ left t.cursor.tokens → operator_result (lexeme p.op_token) p.pos (chain_view p.around.lhs) y ≡ Ok z
-      → behind (R.Done y u) ≡ result_of (binary_op engine frame p.around.settings p.around.settings.pos p.around.parent z) u
+      → behind (R.Done y u) ≡ result_of (binary_op p.around.settings.pos p.around.parent z engine frame p.around.settings) u
   unfolding c w call behind
   joined_so y z u less is =
       let same : context_of engine frame p.around.settings ≡ level_up c = ap (under engine frame) h.next_raised in
@@ -214,8 +214,8 @@ module _ {engine : EngineValue} {frame : FrameValue} {start settings side : Pars
     missed = λ y e u is. ap inside (binary_refused call (level_up c) w parent lhs (lexeme p.op_token) p.pos y e u (ap (λ m. operator_result (lexeme p.op_token) p.pos m y) (sym h.left_side) ∙ is));
   }
 
-  pushed : {ps qs : List Pending} {whole : R.Out Node} → Awaits engine frame start (left s.cursor.tokens) ps whole (result_of (binary_op engine frame settings settings.pos parent lhs) s) → qs ≡ ps ++ p ∷ []
-      → Awaits engine frame start (left t.cursor.tokens) qs whole (result_of (binary_op engine frame side side.pos n x) t)
+  pushed : {ps qs : List Pending} {whole : R.Out Node} → Awaits engine frame start (left s.cursor.tokens) ps whole (result_of (binary_op settings.pos parent lhs engine frame settings) s) → qs ≡ ps ++ p ∷ []
+      → Awaits engine frame start (left t.cursor.tokens) qs whole (result_of (binary_op side.pos n x engine frame side) t)
   pushed {ps} {qs} {whole} a e =
       let inside : R.Out Node → R.Out Node = λ o. a.inside (behind o) in
       let fewer_waits = fewer engine frame start (left s.cursor.tokens) (left t.cursor.tokens) ps (λ o. o) a.inside (let short = h.short in omega (arith, short)) a.waits in
@@ -226,10 +226,10 @@ module _ {engine : EngineValue} {frame : FrameValue} {start settings side : Pars
         same = a.same ∙ ap a.inside side_read;
       }
 
-  pub pushed_as : {ps qs : List Pending} {whole : R.Out Node} {m : ℕ} → m ≡ n → Awaits engine frame start (left s.cursor.tokens) ps whole (result_of (binary_op engine frame settings settings.pos parent lhs) s) → qs ≡ ps ++ p ∷ []
-      → Awaits engine frame start (left t.cursor.tokens) qs whole (result_of (binary_op engine frame side side.pos m x) t)
+  pub pushed_as : {ps qs : List Pending} {whole : R.Out Node} {m : ℕ} → m ≡ n → Awaits engine frame start (left s.cursor.tokens) ps whole (result_of (binary_op settings.pos parent lhs engine frame settings) s) → qs ≡ ps ++ p ∷ []
+      → Awaits engine frame start (left t.cursor.tokens) qs whole (result_of (binary_op side.pos m x engine frame side) t)
   pushed_as {ps} {qs} {whole} same a e =
-      subst (λ k. Awaits engine frame start (left t.cursor.tokens) qs whole (result_of (binary_op engine frame side side.pos k x) t)) (sym same) (pushed a e)
+      subst (λ k. Awaits engine frame start (left t.cursor.tokens) qs whole (result_of (binary_op side.pos k x engine frame side) t)) (sym same) (pushed a e)
 
 module _ {engine : EngineValue} {frame : FrameValue} {start : ParseSettings} {bound : ℕ} {ps : List Pending} {whole now : R.Out Node} (a : Awaits engine frame start bound ps whole now) where
   pub awaits_refused : {e : Refusal} {t : Progress} → now ≡ R.Refused e t → whole ≡ R.Refused e t
@@ -246,7 +246,7 @@ module _ {engine : EngineValue} {frame : FrameValue} {start : ParseSettings} {bo
     last = one_less engine frame start bound qs p (λ o. o) a.inside (subst (λ rs. Waits engine frame start bound rs (λ o. o) a.inside) e a.waits)
 
     popped : {z : Node} → left t.cursor.tokens ≤ bound → operator_result (lexeme p.op_token) p.pos (chain_view p.around.lhs) y ≡ Ok z
-        → Awaits engine frame start (left t.cursor.tokens) qs whole (result_of (binary_op engine frame p.around.settings p.around.settings.pos p.around.parent z) t)
+        → Awaits engine frame start (left t.cursor.tokens) qs whole (result_of (binary_op p.around.settings.pos p.around.parent z engine frame p.around.settings) t)
     popped {z} less joined = record {
       inside = last.0;
       waits = fewer engine frame start bound (left t.cursor.tokens) qs (λ o. o) last.0 less last.1;
@@ -254,10 +254,10 @@ module _ {engine : EngineValue} {frame : FrameValue} {start : ParseSettings} {bo
     }
 
     pub popped_as : {z : Node} {d : ParseSettings} {m : ℕ} → d ≡ p.around.settings → m ≡ p.around.parent → left t.cursor.tokens ≤ bound → operator_result (lexeme p.op_token) p.pos (chain_view p.around.lhs) y ≡ Ok z
-        → Awaits engine frame start (left t.cursor.tokens) qs whole (result_of (binary_op engine frame d d.pos m z) t)
+        → Awaits engine frame start (left t.cursor.tokens) qs whole (result_of (binary_op d.pos m z engine frame d) t)
     popped_as {z} {d} {m} settings parent less joined =
-        subst (λ k. Awaits engine frame start (left t.cursor.tokens) qs whole (result_of (binary_op engine frame d d.pos k z) t)) (sym parent)
-        (subst (λ (f : ParseSettings). Awaits engine frame start (left t.cursor.tokens) qs whole (result_of (binary_op engine frame f f.pos p.around.parent z) t)) (sym settings) (popped less joined))
+        subst (λ k. Awaits engine frame start (left t.cursor.tokens) qs whole (result_of (binary_op d.pos k z engine frame d) t)) (sym parent)
+        (subst (λ (f : ParseSettings). Awaits engine frame start (left t.cursor.tokens) qs whole (result_of (binary_op f.pos p.around.parent z engine frame f) t)) (sym settings) (popped less joined))
 
     pub popped_refused : {r : Refusal} → operator_result (lexeme p.op_token) p.pos (chain_view p.around.lhs) y ≡ Err r → whole ≡ R.Refused r t
     popped_refused {r} refused = a.same ∙ ap a.inside is ∙ last.2.missed y r t refused ∙ all_refused engine frame start bound qs (λ o. o) last.0 last.1 r t

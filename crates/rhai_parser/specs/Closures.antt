@@ -17,8 +17,8 @@ use Rattle.rhai_parser.specs.Frames.{context_of, live_of}
 use Rattle.rhai_parser.specs.Engines.{EngineValue}
 
 -- a closure after its first token, where the settings stand
-abbrev pub closure : EngineValue → FrameValue → ParseSettings → Bars → Goal
-closure engine frame settings by =
+abbrev pub closure : Bars → EngineValue → FrameValue → ParseSettings → Goal
+closure by engine frame settings =
     reading.Closure (context_of engine frame settings) (live_of frame) settings.pos by
 
 -- the body of a closure, in a frame of its own

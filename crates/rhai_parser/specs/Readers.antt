@@ -38,9 +38,11 @@ use Rattle.rhai_base.specs.declared.settings.ParseSettings.{ParseSettings}
 use Rattle.rhai_parser.specs.Bounds.{UpTo}
 use Rattle.rhai_parser.specs.Engines.{EngineValue}
 use Rattle.rhai_parser.specs.Frames.{context_of, live_of}
+use Rattle.rhai_parser.specs.Heights.{Stays}
 use Rattle.rhai_parser.specs.declared.shared.Shared.{Shared}
 
--- ---- what is read, by the engine, the frame and the settings that it is read under
+-- ---- what is read, by the engine, the frame and the settings that it is read under; before these stands what else
+-- it depends on
 
 -- an expression up to the end mark
 abbrev pub whole : EngineValue → FrameValue → ParseSettings → Goal
@@ -54,20 +56,20 @@ abbrev pub operand : EngineValue → FrameValue → ParseSettings → Goal
 operand engine frame settings = reading.Operand (context_of engine frame settings) (live_of frame)
 
 -- an operand of this role after an operator
-abbrev pub right_operand : EngineValue → FrameValue → ParseSettings → OperandRole → Goal
-right_operand engine frame settings place =
+abbrev pub right_operand : OperandRole → EngineValue → FrameValue → ParseSettings → Goal
+right_operand place engine frame settings =
     reading.RightOperand (context_of engine frame settings) (live_of frame) place
 
 abbrev pub primary : EngineValue → FrameValue → ParseSettings → Goal
 primary engine frame settings = reading.Primary (context_of engine frame settings) (live_of frame)
 
 -- what calls an operand, if it is a variable
-abbrev pub postfix : EngineValue → FrameValue → ParseSettings → (operand : Node) → Goal
-postfix engine frame settings operand = reading.Postfix (context_of engine frame settings) (live_of frame) operand
+abbrev pub postfix : (operand : Node) → EngineValue → FrameValue → ParseSettings → Goal
+postfix operand engine frame settings = reading.Postfix (context_of engine frame settings) (live_of frame) operand
 
 -- what calls a name, which may have a path
-abbrev pub called : EngineValue → FrameValue → ParseSettings → (qualified : Bool) → Goal
-called engine frame settings qualified =
+abbrev pub called : (qualified : Bool) → EngineValue → FrameValue → ParseSettings → Goal
+called qualified engine frame settings =
     reading.Called (context_of engine frame settings) (live_of frame) settings.pos qualified
 
 -- the arguments after a `(`
@@ -75,22 +77,22 @@ abbrev pub arguments : EngineValue → FrameValue → ParseSettings → Goal
 arguments engine frame settings = reading.Arguments (context_of engine frame settings) (live_of frame) settings.pos
 
 -- an argument, and those that follow, after these
-abbrev pub items : EngineValue → FrameValue → ParseSettings → (before : Nodes) → Goal
-items engine frame settings before = reading.Items (context_of engine frame settings) (live_of frame) before
+abbrev pub items : (before : Nodes) → EngineValue → FrameValue → ParseSettings → Goal
+items before engine frame settings = reading.Items (context_of engine frame settings) (live_of frame) before
 
 -- the items of an array, after these
-abbrev pub elements : EngineValue → FrameValue → ParseSettings → (before : Nodes) → Goal
-elements engine frame settings before =
+abbrev pub elements : (before : Nodes) → EngineValue → FrameValue → ParseSettings → Goal
+elements before engine frame settings =
     reading.Elements (context_of engine frame settings) (live_of frame) settings.pos before
 
 -- the properties of an object map, after these
-abbrev pub fields : EngineValue → FrameValue → ParseSettings → (before : Properties) → Goal
-fields engine frame settings before =
+abbrev pub fields : (before : Properties) → EngineValue → FrameValue → ParseSettings → Goal
+fields before engine frame settings =
     reading.Fields (context_of engine frame settings) (live_of frame) settings.pos before
 
 -- the blocks and texts of an interpolated string, after these segments
-abbrev pub segments : EngineValue → FrameValue → ParseSettings → (before : Nodes) → Goal
-segments engine frame settings before =
+abbrev pub segments : (before : Nodes) → EngineValue → FrameValue → ParseSettings → Goal
+segments before engine frame settings =
     reading.Segments (context_of engine frame settings) (live_of frame) settings.pos before
 
 -- what follows `return`, `throw` or `break`
@@ -98,22 +100,21 @@ abbrev pub jump : EngineValue → FrameValue → ParseSettings → Goal
 jump engine frame settings = reading.Jump (context_of engine frame settings) (live_of frame) settings.pos
 
 -- the links after an operand
-abbrev pub links : EngineValue → FrameValue → ParseSettings → (root : Node) → Goal
-links engine frame settings root =
+abbrev pub links : (root : Node) → EngineValue → FrameValue → ParseSettings → Goal
+links root engine frame settings =
     reading.Links (live_of frame) (spot_after_operand (context_of engine frame settings) root)
 
 -- the index in a bracket; whose index it is, if that is tested
-abbrev pub index : EngineValue → FrameValue → ParseSettings → (indexed : Option Node) → Goal
-index engine frame settings indexed = reading.Index (context_of engine frame settings) (live_of frame) indexed
+abbrev pub index : (indexed : Option Node) → EngineValue → FrameValue → ParseSettings → Goal
+index indexed engine frame settings = reading.Index (context_of engine frame settings) (live_of frame) indexed
 
 -- the member after a dot
 abbrev pub member : EngineValue → FrameValue → ParseSettings → Goal
 member engine frame settings = reading.Member (context_of engine frame settings) (live_of frame)
 
 -- the operators after a left operand that go on with a run of this strength
-abbrev pub binary_op : EngineValue → FrameValue → ParseSettings → (at : Position) (parent : ℕ) (lhs : Node)
-    → Goal
-binary_op engine frame settings at parent lhs =
+abbrev pub binary_op : (at : Position) (parent : ℕ) (lhs : Node) → EngineValue → FrameValue → ParseSettings → Goal
+binary_op at parent lhs engine frame settings =
     reading.BinaryOp (context_of engine frame settings) (live_of frame) at parent lhs
 
 -- an expression or an assignment
@@ -130,8 +131,8 @@ initializer engine frame settings =
     reading.Initializer (context_of engine frame settings) (live_of frame) settings.pos
 
 -- a definition after its keyword
-abbrev pub definition : EngineValue → FrameValue → ParseSettings → (constant exported : Bool) → Goal
-definition engine frame settings constant exported =
+abbrev pub definition : (constant exported : Bool) → EngineValue → FrameValue → ParseSettings → Goal
+definition constant exported engine frame settings =
     reading.Definition (context_of engine frame settings) (live_of frame) settings.pos constant exported
 
 -- what follows `import`
@@ -148,8 +149,8 @@ abbrev pub statement : EngineValue → FrameValue → ParseSettings → Goal
 statement engine frame settings = reading.Statement (context_of engine frame settings) (live_of frame)
 
 -- the statements of a list, after these
-abbrev pub statements : EngineValue → FrameValue → ParseSettings → Closing → (before : Statements) → Goal
-statements engine frame settings closing before =
+abbrev pub statements : Closing → (before : Statements) → EngineValue → FrameValue → ParseSettings → Goal
+statements closing before engine frame settings =
     reading.Statements closing (context_of engine frame settings) (live_of frame) before
 
 -- the statements of a block, up to its `}`
@@ -161,8 +162,8 @@ abbrev pub block : EngineValue → FrameValue → ParseSettings → Goal
 block engine frame settings = reading.Block (context_of engine frame settings) (live_of frame) settings.pos
 
 -- a construct of this kind after its first token
-abbrev pub construct : EngineValue → FrameValue → ParseSettings → Construct → Goal
-construct engine frame settings kind =
+abbrev pub construct : Construct → EngineValue → FrameValue → ParseSettings → Goal
+construct kind engine frame settings =
     reading.Construct (context_of engine frame settings) (live_of frame) settings.pos kind
 
 -- a block of a construct from its `{`
@@ -186,22 +187,22 @@ abbrev pub branch : EngineValue → FrameValue → ParseSettings → Goal
 branch engine frame settings = reading.Branch (context_of engine frame settings) (live_of frame) settings.pos
 
 -- the arms of `switch`, after those that were collected
-abbrev pub arms : EngineValue → FrameValue → ParseSettings → (before : Collected) → Goal
-arms engine frame settings before =
+abbrev pub arms : (before : Collected) → EngineValue → FrameValue → ParseSettings → Goal
+arms before engine frame settings =
     reading.Arms (context_of engine frame settings) (live_of frame) before
 
 -- an arm with cases, after those that were collected
-abbrev pub arm : EngineValue → FrameValue → ParseSettings → (before : Collected) → Goal
-arm engine frame settings before = reading.Arm (context_of engine frame settings) (live_of frame) before
+abbrev pub arm : (before : Collected) → EngineValue → FrameValue → ParseSettings → Goal
+arm before engine frame settings = reading.Arm (context_of engine frame settings) (live_of frame) before
 
 -- the default arm after its `_`
-abbrev pub default_arm : EngineValue → FrameValue → ParseSettings → (default : Position) → Goal
-default_arm engine frame settings default =
+abbrev pub default_arm : (default : Position) → EngineValue → FrameValue → ParseSettings → Goal
+default_arm default engine frame settings =
     reading.DefaultArm (context_of engine frame settings) (live_of frame) default
 
 -- the cases of an arm, after these
-abbrev pub cases : EngineValue → FrameValue → ParseSettings → (before : Nodes) → Goal
-cases engine frame settings before =
+abbrev pub cases : (before : Nodes) → EngineValue → FrameValue → ParseSettings → Goal
+cases before engine frame settings =
     reading.Cases (context_of engine frame settings) (live_of frame) before
 
 abbrev pub case : EngineValue → FrameValue → ParseSettings → Goal
@@ -213,15 +214,15 @@ case_guard engine frame settings = reading.CaseGuard (context_of engine frame se
 
 -- a function with these doc comments, as a statement, after its `fn`, where the settings stand; its `private` or `fn`
 -- is at a position
-abbrev pub function_statement : EngineValue → FrameValue → ParseSettings → List Comment → (first : Position)
-    (is_private : Bool) → Goal
-function_statement engine frame settings comments first is_private =
+abbrev pub function_statement : List Comment → (first : Position) (is_private : Bool) → EngineValue → FrameValue
+    → ParseSettings → Goal
+function_statement comments first is_private engine frame settings =
     reading.FunctionStatement (context_of engine frame settings) (live_of frame) comments first settings.pos
     is_private
 
 -- a function with these doc comments, in a frame of its own
-abbrev pub function : EngineValue → FrameValue → ParseSettings → List Comment → (is_private : Bool) → Goal
-function engine frame settings comments is_private =
+abbrev pub function : List Comment → (is_private : Bool) → EngineValue → FrameValue → ParseSettings → Goal
+function comments is_private engine frame settings =
     reading.Function (context_of engine frame settings) comments settings.pos is_private
 
 -- what an arm does
@@ -293,6 +294,26 @@ Reads g view old result new = Gives view (result_of g (state_of old)) result (st
 -- The same of a reader that counts: it is entered and left.
 abbrev pub Nests : {X : Type 0} (g : Goal) → (X → Val g) → Shared → Result X ParseError → Shared → Type 0
 Nests g view old result new = Gives view (nested (result_of g) (state_of old)) result (state_of new)
+
+-- What a reader promises, which this goal names, under this engine, frame and settings, and seen by view. The references
+-- stay, no ended function is lost, and no more is left to read. The nesting stays in its bounds, where so many readers
+-- may stand on the reader's own level, and an orderly library stays so. And it reads what the goal says.
+pub record ReadsAs (engine : EngineValue) (frame : FrameValue) (settings : ParseSettings) (height : ℕ)
+    (goal : EngineValue → FrameValue → ParseSettings → Goal) {X : Type 0}
+    (view : X → Val (goal engine frame settings)) (old : Shared) (result : Result X ParseError) (new : Shared)
+    : Type 0 where
+  pub goes_on : GoesOn old new
+  pub stays : Stays engine frame settings height old new
+  pub reads : Reads (goal engine frame settings) view old result new
+
+-- The same of a reader that counts.
+pub record NestsAs (engine : EngineValue) (frame : FrameValue) (settings : ParseSettings) (height : ℕ)
+    (goal : EngineValue → FrameValue → ParseSettings → Goal) {X : Type 0}
+    (view : X → Val (goal engine frame settings)) (old : Shared) (result : Result X ParseError) (new : Shared)
+    : Type 0 where
+  pub goes_on : GoesOn old new
+  pub stays : Stays engine frame settings height old new
+  pub reads : Nests (goal engine frame settings) view old result new
 
 -- Calls of each need below that of this goal may be made.
 abbrev pub Covers : (ℕ → Type 0) → Goal → Shared → Type 0

@@ -1,8 +1,7 @@
 //! The reader of blocks, after their `{`.
 
 ghost use Rattle.rhai_lower.specs.View.{block_view};
-ghost use Rattle.rhai_parser.specs.Readers.{Covers, GoesOn, Reads, block};
-ghost use Rattle.rhai_parser.specs.Heights.{Stays};
+ghost use Rattle.rhai_parser.specs.Readers.{Covers, ReadsAs, block};
 
 use crate::lent::LentReaders;
 use crate::reader::Reader;
@@ -24,9 +23,7 @@ impl<R: LentReaders> Reader<'_, R> {
         settings: ParseSettings,
     ) -> ParseResult<StmtBlock>
         requires lent { Covers (R.lent self.now.readers) (block self.now.engine.now frame.now settings) shared.old }
-        ensures goes_on { GoesOn shared.old shared.new }
-        ensures stays { Stays self.now.engine.now frame.now settings 3 shared.old shared.new }
-        ensures reads { Reads (block self.now.engine.now frame.now settings) block_view shared.old result shared.new }
+        ensures { ReadsAs self.now.engine.now frame.now settings 3 block block_view shared.old result shared.new }
     {
         let statements = nested!(shared, self.parse_block_inside(shared, frame, settings))?;
         let end = end_block(self.engine.alloc(), shared.input)?;

@@ -4,11 +4,10 @@ ghost use Rattle.std.specs.Prelude.{◌≡◌, IfOk, false, option_map};
 ghost use Rattle.rhai_lower.specs.View.{view};
 ghost use Rattle.rhai_grammar.specs.Delivered.{is_end};
 ghost use Rattle.rhai_reading.specs.Running.{next_item};
-ghost use Rattle.rhai_parser.specs.Readers.{Covers, GoesOn, Reads, called, index, links, member, state_of};
+ghost use Rattle.rhai_parser.specs.Readers.{Covers, ReadsAs, called, index, links, member, state_of};
 ghost use Rattle.rhai_trees.specs.Chains.{chain_view};
 ghost use Rattle.rhai_trees.specs.Linked.{is_linked};
 ghost use Rattle.rhai_parser.specs.ExprViews.{call_view, linked};
-ghost use Rattle.rhai_parser.specs.Heights.{Stays};
 
 use crate::expr::asks::end_index;
 use crate::lent::LentReaders;
@@ -37,11 +36,9 @@ impl<R: LentReaders> Reader<'_, R> {
         settings: ParseSettings,
         qualified: bool,
     ) -> ParseResult<Call>
-        requires lent { Covers (R.lent self.now.readers) (called self.now.engine.now frame.now settings
-            qualified) shared.old }
-        ensures goes_on { GoesOn shared.old shared.new }
-        ensures stays { Stays self.now.engine.now frame.now settings 1 shared.old shared.new }
-        ensures reads { Reads (called self.now.engine.now frame.now settings qualified) call_view shared.old result
+        requires lent { Covers (R.lent self.now.readers) (called qualified self.now.engine.now frame.now settings)
+            shared.old }
+        ensures { ReadsAs self.now.engine.now frame.now settings 1 (called qualified) call_view shared.old result
             shared.new }
     {
         let (token, pos) = peek(shared.input)?;
@@ -86,12 +83,10 @@ impl<R: LentReaders> Reader<'_, R> {
         settings: ParseSettings,
         lhs: &Chain,
     ) -> ParseResult<Vec<Link>>
-        requires lent { Covers (R.lent self.now.readers) (links self.now.engine.now frame.now settings
-            (chain_view lhs.now)) shared.old }
-        ensures goes_on { GoesOn shared.old shared.new }
-        ensures stays { Stays self.now.engine.now frame.now settings 0 shared.old shared.new }
-        ensures reads { Reads (links self.now.engine.now frame.now settings (chain_view lhs.now)) linked shared.old
-            result shared.new }
+        requires lent { Covers (R.lent self.now.readers)
+            (links (chain_view lhs.now) self.now.engine.now frame.now settings) shared.old }
+        ensures { ReadsAs self.now.engine.now frame.now settings 0 (links (chain_view lhs.now)) linked shared.old result
+            shared.new }
     {
         let (token, _) = peek(shared.input)?;
         match what_links(token) {
@@ -112,12 +107,10 @@ impl<R: LentReaders> Reader<'_, R> {
         settings: ParseSettings,
         lhs: &Chain,
     ) -> ParseResult<Vec<Link>>
-        requires lent { Covers (R.lent self.now.readers) (links self.now.engine.now frame.now settings
-            (chain_view lhs.now)) shared.old }
-        ensures goes_on { GoesOn shared.old shared.new }
-        ensures stays { Stays self.now.engine.now frame.now settings 0 shared.old shared.new }
-        ensures reads { Reads (links self.now.engine.now frame.now settings (chain_view lhs.now)) linked shared.old
-            result shared.new }
+        requires lent { Covers (R.lent self.now.readers)
+            (links (chain_view lhs.now) self.now.engine.now frame.now settings) shared.old }
+        ensures { ReadsAs self.now.engine.now frame.now settings 0 (links (chain_view lhs.now)) linked shared.old result
+            shared.new }
     {
         let mut settings = settings;
         let mut brackets = settings;
@@ -173,12 +166,10 @@ impl<R: LentReaders> Reader<'_, R> {
         settings: ParseSettings,
         indexed: Option<&Chain>,
     ) -> ParseResult<Expr>
-        requires lent { Covers (R.lent self.now.readers) (index self.now.engine.now frame.now settings
-            (option_map (λ x. chain_view x.now) indexed)) shared.old }
-        ensures goes_on { GoesOn shared.old shared.new }
-        ensures stays { Stays self.now.engine.now frame.now settings 1 shared.old shared.new }
-        ensures reads { Reads (index self.now.engine.now frame.now settings
-            (option_map (λ x. chain_view x.now) indexed.entry)) view shared.old result shared.new }
+        requires lent { Covers (R.lent self.now.readers)
+            (index (option_map (λ x. chain_view x.now) indexed) self.now.engine.now frame.now settings) shared.old }
+        ensures { ReadsAs self.now.engine.now frame.now settings 1
+            (index (option_map (λ x. chain_view x.now) indexed.entry)) view shared.old result shared.new }
     {
         let index = self
             .readers
@@ -195,11 +186,8 @@ impl<R: LentReaders> Reader<'_, R> {
         settings: ParseSettings,
     ) -> ParseResult<Expr>
         requires seen { is_end (next_item (state_of shared.old)).lexeme ≡ false }
-        requires lent { Covers (R.lent self.now.readers) (member self.now.engine.now frame.now settings)
-            shared.old }
-        ensures goes_on { GoesOn shared.old shared.new }
-        ensures stays { Stays self.now.engine.now frame.now settings 2 shared.old shared.new }
-        ensures reads { Reads (member self.now.engine.now frame.now settings) view shared.old result shared.new }
+        requires lent { Covers (R.lent self.now.readers) (member self.now.engine.now frame.now settings) shared.old }
+        ensures reads { ReadsAs self.now.engine.now frame.now settings 2 member view shared.old result shared.new }
         ensures value { IfOk result (λ x. is_linked (view x) ≡ false) }
     {
         let (token, pos) = peek(shared.input)?;

@@ -4,9 +4,9 @@ pub(crate) mod control;
 
 ghost use Rattle.rhai_lower.specs.View.{block_view, statement_view, view};
 ghost use Rattle.rhai_grammar.specs.declared.role.Construct.TheVariants.{Do, For, Loop, Try, While};
-ghost use Rattle.rhai_parser.specs.Readers.{Covers, GoesOn, Reads, braced, branch, conditional, construct};
-ghost use Rattle.rhai_parser.specs.Readers.{guard, iterated};
+ghost use Rattle.rhai_parser.specs.Readers.{Covers, GoesOn, Reads, ReadsAs, braced, branch, conditional, construct};
 ghost use Rattle.rhai_parser.specs.Heights.{Stays};
+ghost use Rattle.rhai_parser.specs.Readers.{guard, iterated};
 
 use crate::construct::control::{catch_frame, end_guard, end_iterated, loop_frame};
 use crate::lent::LentReaders;
@@ -33,12 +33,9 @@ impl<R: LentReaders> Reader<'_, R> {
         settings: ParseSettings,
         kind: Construct,
     ) -> ParseResult<Stmt>
-        requires lent { Covers (R.lent self.now.readers) (construct self.now.engine.now frame.now settings kind)
+        requires lent { Covers (R.lent self.now.readers) (construct kind self.now.engine.now frame.now settings)
             shared.old }
-        ensures goes_on { GoesOn shared.old shared.new }
-        ensures stays { Stays self.now.engine.now frame.now settings 4 shared.old shared.new }
-        ensures reads { Reads (construct self.now.engine.now frame.now settings kind) statement_view shared.old
-            result
+        ensures { ReadsAs self.now.engine.now frame.now settings 4 (construct kind) statement_view shared.old result
             shared.new }
     {
         match kind {
@@ -67,9 +64,7 @@ impl<R: LentReaders> Reader<'_, R> {
     ) -> ParseResult<Stmt>
         requires lent { Covers (R.lent self.now.readers) (conditional self.now.engine.now frame.now settings)
             shared.old }
-        ensures goes_on { GoesOn shared.old shared.new }
-        ensures stays { Stays self.now.engine.now frame.now settings 2 shared.old shared.new }
-        ensures reads { Reads (conditional self.now.engine.now frame.now settings) statement_view shared.old result
+        ensures { ReadsAs self.now.engine.now frame.now settings 2 conditional statement_view shared.old result
             shared.new }
     {
         let guard = nested!(shared, self.parse_guard(shared, frame, settings))?;
@@ -88,12 +83,8 @@ impl<R: LentReaders> Reader<'_, R> {
         frame: &Frame<'_>,
         settings: ParseSettings,
     ) -> ParseResult<StmtBlock>
-        requires lent { Covers (R.lent self.now.readers) (branch self.now.engine.now frame.now settings)
-            shared.old }
-        ensures goes_on { GoesOn shared.old shared.new }
-        ensures stays { Stays self.now.engine.now frame.now settings 1 shared.old shared.new }
-        ensures reads { Reads (branch self.now.engine.now frame.now settings) block_view shared.old result
-            shared.new }
+        requires lent { Covers (R.lent self.now.readers) (branch self.now.engine.now frame.now settings) shared.old }
+        ensures { ReadsAs self.now.engine.now frame.now settings 1 branch block_view shared.old result shared.new }
     {
         if !pass_token(shared.input, DueToken::Else)? {
             return Ok(no_block(self.engine.alloc()));
@@ -116,11 +107,8 @@ impl<R: LentReaders> Reader<'_, R> {
         frame: &Frame<'_>,
         settings: ParseSettings,
     ) -> ParseResult<Expr>
-        requires lent { Covers (R.lent self.now.readers) (guard self.now.engine.now frame.now settings)
-            shared.old }
-        ensures goes_on { GoesOn shared.old shared.new }
-        ensures stays { Stays self.now.engine.now frame.now settings 1 shared.old shared.new }
-        ensures reads { Reads (guard self.now.engine.now frame.now settings) view shared.old result shared.new }
+        requires lent { Covers (R.lent self.now.readers) (guard self.now.engine.now frame.now settings) shared.old }
+        ensures { ReadsAs self.now.engine.now frame.now settings 1 guard view shared.old result shared.new }
     {
         guard_begins(self.engine.alloc(), shared.input)?;
         let guard = self
@@ -137,11 +125,8 @@ impl<R: LentReaders> Reader<'_, R> {
         frame: &Frame<'_>,
         settings: ParseSettings,
     ) -> ParseResult<Expr>
-        requires lent { Covers (R.lent self.now.readers) (iterated self.now.engine.now frame.now settings)
-            shared.old }
-        ensures goes_on { GoesOn shared.old shared.new }
-        ensures stays { Stays self.now.engine.now frame.now settings 1 shared.old shared.new }
-        ensures reads { Reads (iterated self.now.engine.now frame.now settings) view shared.old result shared.new }
+        requires lent { Covers (R.lent self.now.readers) (iterated self.now.engine.now frame.now settings) shared.old }
+        ensures { ReadsAs self.now.engine.now frame.now settings 1 iterated view shared.old result shared.new }
     {
         guard_begins(self.engine.alloc(), shared.input)?;
         let over = self
@@ -159,12 +144,8 @@ impl<R: LentReaders> Reader<'_, R> {
         frame: &Frame<'_>,
         settings: ParseSettings,
     ) -> ParseResult<StmtBlock>
-        requires lent { Covers (R.lent self.now.readers) (braced self.now.engine.now frame.now settings)
-            shared.old }
-        ensures goes_on { GoesOn shared.old shared.new }
-        ensures stays { Stays self.now.engine.now frame.now settings 0 shared.old shared.new }
-        ensures reads { Reads (braced self.now.engine.now frame.now settings) block_view shared.old result
-            shared.new }
+        requires lent { Covers (R.lent self.now.readers) (braced self.now.engine.now frame.now settings) shared.old }
+        ensures { ReadsAs self.now.engine.now frame.now settings 0 braced block_view shared.old result shared.new }
     {
         let opening = begin_block(self.engine.alloc(), shared.input, "to begin this block")?;
         let deeper = settings.level_up_with_position(opening)?;
@@ -179,12 +160,9 @@ impl<R: LentReaders> Reader<'_, R> {
         frame: &Frame<'_>,
         settings: ParseSettings,
     ) -> ParseResult<Stmt>
-        requires lent { Covers (R.lent self.now.readers) (construct self.now.engine.now frame.now settings
-            While) shared.old }
-        ensures goes_on { GoesOn shared.old shared.new }
-        ensures stays { Stays self.now.engine.now frame.now settings 4 shared.old shared.new }
-        ensures reads { Reads (construct self.now.engine.now frame.now settings While) statement_view shared.old
-            result
+        requires lent { Covers (R.lent self.now.readers) (construct While self.now.engine.now frame.now settings)
+            shared.old }
+        ensures { ReadsAs self.now.engine.now frame.now settings 4 (construct While) statement_view shared.old result
             shared.new }
     {
         let guard = nested!(shared, self.parse_guard(shared, frame, settings))?;
@@ -203,12 +181,9 @@ impl<R: LentReaders> Reader<'_, R> {
         frame: &Frame<'_>,
         settings: ParseSettings,
     ) -> ParseResult<Stmt>
-        requires lent { Covers (R.lent self.now.readers) (construct self.now.engine.now frame.now settings Loop)
+        requires lent { Covers (R.lent self.now.readers) (construct Loop self.now.engine.now frame.now settings)
             shared.old }
-        ensures goes_on { GoesOn shared.old shared.new }
-        ensures stays { Stays self.now.engine.now frame.now settings 4 shared.old shared.new }
-        ensures reads { Reads (construct self.now.engine.now frame.now settings Loop) statement_view shared.old
-            result
+        ensures { ReadsAs self.now.engine.now frame.now settings 4 (construct Loop) statement_view shared.old result
             shared.new }
     {
         let body = nested!(
@@ -231,11 +206,9 @@ impl<R: LentReaders> Reader<'_, R> {
         frame: &Frame<'_>,
         settings: ParseSettings,
     ) -> ParseResult<Stmt>
-        requires lent { Covers (R.lent self.now.readers) (construct self.now.engine.now frame.now settings Do)
+        requires lent { Covers (R.lent self.now.readers) (construct Do self.now.engine.now frame.now settings)
             shared.old }
-        ensures goes_on { GoesOn shared.old shared.new }
-        ensures stays { Stays self.now.engine.now frame.now settings 4 shared.old shared.new }
-        ensures reads { Reads (construct self.now.engine.now frame.now settings Do) statement_view shared.old result
+        ensures { ReadsAs self.now.engine.now frame.now settings 4 (construct Do) statement_view shared.old result
             shared.new }
     {
         let body = nested!(
@@ -255,11 +228,11 @@ impl<R: LentReaders> Reader<'_, R> {
         frame: &Frame<'_>,
         settings: ParseSettings,
     ) -> ParseResult<Stmt>
-        requires lent { Covers (R.lent self.now.readers) (construct self.now.engine.now frame.now settings For)
+        requires lent { Covers (R.lent self.now.readers) (construct For self.now.engine.now frame.now settings)
             shared.old }
         ensures goes_on { GoesOn shared.old shared.new }
         ensures stays { Stays self.now.engine.now frame.now settings 4 shared.old shared.new }
-        ensures reads { Reads (construct self.now.engine.now frame.now settings For) statement_view shared.old
+        ensures reads { Reads (construct For self.now.engine.now frame.now settings) statement_view shared.old
             result
             shared.new }
     {
@@ -289,12 +262,9 @@ impl<R: LentReaders> Reader<'_, R> {
         frame: &Frame<'_>,
         settings: ParseSettings,
     ) -> ParseResult<Stmt>
-        requires lent { Covers (R.lent self.now.readers) (construct self.now.engine.now frame.now settings Try)
+        requires lent { Covers (R.lent self.now.readers) (construct Try self.now.engine.now frame.now settings)
             shared.old }
-        ensures goes_on { GoesOn shared.old shared.new }
-        ensures stays { Stays self.now.engine.now frame.now settings 4 shared.old shared.new }
-        ensures reads { Reads (construct self.now.engine.now frame.now settings Try) statement_view shared.old
-            result
+        ensures { ReadsAs self.now.engine.now frame.now settings 4 (construct Try) statement_view shared.old result
             shared.new }
     {
         let body = nested!(shared, self.parse_braces(shared, frame, settings))?;

@@ -14,7 +14,7 @@ ghost use Rattle.rhai_base.specs.OperandEnds.{ends_operand};
 ghost use Rattle.rhai_reading.specs.Running.{Done, Gives, Progress, next_item, exec, guarded, after_peek, result_of};
 ghost use Rattle.rhai_parser.specs.Frames.{context_of, live_of};
 ghost use Rattle.rhai_parser.specs.Operands.{operand_ends};
-ghost use Rattle.rhai_parser.specs.Readers.{Covers, GoesOn, Reads, arguments, expression, items, links};
+ghost use Rattle.rhai_parser.specs.Readers.{Covers, GoesOn, Reads, ReadsAs, arguments, expression, items, links};
 ghost use Rattle.rhai_parser.specs.Readers.{operand, postfix};
 ghost use Rattle.rhai_parser.specs.Readers.{right_operand, state_of, views_of};
 ghost use Rattle.rhai_parser.specs.Heights.{Stays};
@@ -47,12 +47,10 @@ impl<R: LentReaders> Reader<'_, R> {
         settings: ParseSettings,
         operand: Chain,
     ) -> ParseResult<Chain>
-        requires lent { Covers (R.lent self.now.readers) (postfix self.now.engine.now frame.now settings
-            (chain_view operand)) shared.old }
-        ensures goes_on { GoesOn shared.old shared.new }
-        ensures stays { Stays self.now.engine.now frame.now settings 2 shared.old shared.new }
-        ensures reads { Reads (postfix self.now.engine.now frame.now settings (chain_view operand)) chain_view
-            shared.old result shared.new }
+        requires lent { Covers (R.lent self.now.readers)
+            (postfix (chain_view operand) self.now.engine.now frame.now settings) shared.old }
+        ensures { ReadsAs self.now.engine.now frame.now settings 2 (postfix (chain_view operand)) chain_view shared.old
+            result shared.new }
     {
         if !excludes_use(shared.input)? {
             return Ok(operand);
@@ -72,12 +70,10 @@ impl<R: LentReaders> Reader<'_, R> {
         settings: ParseSettings,
         operand: Chain,
     ) -> ParseResult<Chain>
-        requires lent { Covers (R.lent self.now.readers) (postfix self.now.engine.now frame.now settings
-            (chain_view operand)) shared.old }
-        ensures goes_on { GoesOn shared.old shared.new }
-        ensures stays { Stays self.now.engine.now frame.now settings 2 shared.old shared.new }
-        ensures reads { Reads (postfix self.now.engine.now frame.now settings (chain_view operand)) chain_view
-            shared.old result shared.new }
+        requires lent { Covers (R.lent self.now.readers)
+            (postfix (chain_view operand) self.now.engine.now frame.now settings) shared.old }
+        ensures { ReadsAs self.now.engine.now frame.now settings 2 (postfix (chain_view operand)) chain_view shared.old
+            result shared.new }
     {
         let alloc = self.engine.alloc();
         let (name, pos) = match as_variable(alloc, operand) {
@@ -110,12 +106,8 @@ impl<R: LentReaders> Reader<'_, R> {
         frame: &Frame<'_>,
         settings: ParseSettings,
     ) -> ParseResult<Vec<Expr>>
-        requires lent { Covers (R.lent self.now.readers) (arguments self.now.engine.now frame.now settings)
-            shared.old }
-        ensures goes_on { GoesOn shared.old shared.new }
-        ensures stays { Stays self.now.engine.now frame.now settings 0 shared.old shared.new }
-        ensures reads { Reads (arguments self.now.engine.now frame.now settings) views_of shared.old result
-            shared.new }
+        requires lent { Covers (R.lent self.now.readers) (arguments self.now.engine.now frame.now settings) shared.old }
+        ensures { ReadsAs self.now.engine.now frame.now settings 0 arguments views_of shared.old result shared.new }
     {
         let (token, pos) = peek(shared.input)?;
         if is_no_argument(token) {
@@ -138,11 +130,9 @@ impl<R: LentReaders> Reader<'_, R> {
         frame: &Frame<'_>,
         settings: ParseSettings,
     ) -> ParseResult<Vec<Expr>>
-        requires lent { Covers (R.lent self.now.readers) (items self.now.engine.now frame.now settings no_nodes)
+        requires lent { Covers (R.lent self.now.readers) (items no_nodes self.now.engine.now frame.now settings)
             shared.old }
-        ensures goes_on { GoesOn shared.old shared.new }
-        ensures stays { Stays self.now.engine.now frame.now settings 1 shared.old shared.new }
-        ensures reads { Reads (items self.now.engine.now frame.now settings no_nodes) views_of shared.old result
+        ensures { ReadsAs self.now.engine.now frame.now settings 1 (items no_nodes) views_of shared.old result
             shared.new }
     {
         let mut items = Vec::new(self.engine.alloc());
@@ -172,11 +162,11 @@ impl<R: LentReaders> Reader<'_, R> {
         settings: ParseSettings,
         place: OperandRole,
     ) -> ParseResult<Chain>
-        requires lent { Covers (R.lent self.now.readers) (right_operand self.now.engine.now frame.now settings
-            place) shared.old }
+        requires lent { Covers (R.lent self.now.readers) (right_operand place self.now.engine.now frame.now settings)
+            shared.old }
         ensures goes_on { GoesOn shared.old shared.new }
         ensures stays { Stays self.now.engine.now frame.now settings 4 shared.old shared.new }
-        ensures reads { Reads (right_operand self.now.engine.now frame.now settings place) chain_view shared.old
+        ensures reads { Reads (right_operand place self.now.engine.now frame.now settings) chain_view shared.old
             result shared.new }
     {
         let alloc = self.engine.alloc();
@@ -208,12 +198,8 @@ impl<R: LentReaders> Reader<'_, R> {
         frame: &Frame<'_>,
         settings: ParseSettings,
     ) -> ParseResult<Chain>
-        requires lent { Covers (R.lent self.now.readers) (operand self.now.engine.now frame.now settings)
-            shared.old }
-        ensures goes_on { GoesOn shared.old shared.new }
-        ensures stays { Stays self.now.engine.now frame.now settings 3 shared.old shared.new }
-        ensures reads { Reads (operand self.now.engine.now frame.now settings) chain_view shared.old result
-            shared.new }
+        requires lent { Covers (R.lent self.now.readers) (operand self.now.engine.now frame.now settings) shared.old }
+        ensures { ReadsAs self.now.engine.now frame.now settings 3 operand chain_view shared.old result shared.new }
     {
         let (token, _) = peek(shared.input)?;
         if !is_value(token) {
@@ -236,8 +222,7 @@ impl<R: LentReaders> Reader<'_, R> {
         frame: &Frame<'_>,
         settings: ParseSettings,
     ) -> ParseResult<Chain>
-        requires lent { Covers (R.lent self.now.readers) (operand self.now.engine.now frame.now settings)
-            shared.old }
+        requires lent { Covers (R.lent self.now.readers) (operand self.now.engine.now frame.now settings) shared.old }
         ensures goes_on { GoesOn shared.old shared.new }
         ensures stays { Stays self.now.engine.now frame.now settings 3 shared.old shared.new }
         ensures reads { Reads (operand self.now.engine.now frame.now settings) chain_view shared.old result
@@ -270,12 +255,8 @@ impl<R: LentReaders> Reader<'_, R> {
         settings: ParseSettings,
     ) -> ParseResult<Chain>
         requires unsigned { is_sign (beginning (next_item (state_of shared.old)).lexeme) ≡ false }
-        requires lent { Covers (R.lent self.now.readers) (operand self.now.engine.now frame.now settings)
-            shared.old }
-        ensures goes_on { GoesOn shared.old shared.new }
-        ensures stays { Stays self.now.engine.now frame.now settings 3 shared.old shared.new }
-        ensures reads { Reads (operand self.now.engine.now frame.now settings) chain_view shared.old result
-            shared.new }
+        requires lent { Covers (R.lent self.now.readers) (operand self.now.engine.now frame.now settings) shared.old }
+        ensures { ReadsAs self.now.engine.now frame.now settings 3 operand chain_view shared.old result shared.new }
     {
         peek(shared.input)?;
         let primary = nested!(shared, self.parse_primary(shared, frame, settings))?;
@@ -294,7 +275,7 @@ impl<R: LentReaders> Reader<'_, R> {
         requires looked { state_of shared.now ≡ after_peek (state_of shared.now) }
         requires readable { is_memory (next_item (state_of shared.now)).lexeme ≡ false }
         requires ends { ends_operand (next_item (state_of shared.now)).lexeme ≡ true }
-        ensures reads { result_of (postfix self.now.engine.now frame.now settings (chain_view operand.now))
+        ensures reads { result_of (postfix (chain_view operand.now) self.now.engine.now frame.now settings)
             (state_of shared.now) ≡ Done (chain_view operand.now) (state_of shared.now) }
     {}
 
@@ -310,7 +291,7 @@ impl<R: LentReaders> Reader<'_, R> {
         requires looked { state_of shared.now ≡ after_peek (state_of shared.now) }
         requires readable { is_memory (next_item (state_of shared.now)).lexeme ≡ false }
         requires ends { ends_operand (next_item (state_of shared.now)).lexeme ≡ true }
-        ensures reads { result_of (links self.now.engine.now frame.now settings (chain_view operand.now))
+        ensures reads { result_of (links (chain_view operand.now) self.now.engine.now frame.now settings)
             (state_of shared.now) ≡ Done [] (state_of shared.now) }
     {}
 
@@ -324,8 +305,7 @@ impl<R: LentReaders> Reader<'_, R> {
         settings: ParseSettings,
         primary: Chain,
     ) -> ParseResult<Chain>
-        requires lent { Covers (R.lent self.now.readers) (operand self.now.engine.now frame.now settings)
-            shared.old }
+        requires lent { Covers (R.lent self.now.readers) (operand self.now.engine.now frame.now settings) shared.old }
         ensures goes_on { GoesOn shared.old shared.new }
         ensures stays { Stays self.now.engine.now frame.now settings 3 shared.old shared.new }
         ensures reads { (s : Progress) → left (state_of shared.old).cursor.tokens ≤ left s.cursor.tokens
@@ -354,8 +334,7 @@ impl<R: LentReaders> Reader<'_, R> {
         settings: ParseSettings,
         primary: Chain,
     ) -> ParseResult<Chain>
-        requires lent { Covers (R.lent self.now.readers) (operand self.now.engine.now frame.now settings)
-            shared.old }
+        requires lent { Covers (R.lent self.now.readers) (operand self.now.engine.now frame.now settings) shared.old }
         ensures goes_on { GoesOn shared.old shared.new }
         ensures stays { Stays self.now.engine.now frame.now settings 3 shared.old shared.new }
         ensures reads { (s : Progress) → left (state_of shared.old).cursor.tokens ≤ left s.cursor.tokens
@@ -380,10 +359,7 @@ impl<R: LentReaders> Reader<'_, R> {
     ) -> ParseResult<Chain>
         requires lent { Covers (R.lent self.now.readers) (expression self.now.engine.now frame.now settings)
             shared.old }
-        ensures goes_on { GoesOn shared.old shared.new }
-        ensures stays { Stays self.now.engine.now frame.now settings 0 shared.old shared.new }
-        ensures reads { Reads (expression self.now.engine.now frame.now settings) chain_view shared.old result
-            shared.new }
+        ensures { ReadsAs self.now.engine.now frame.now settings 0 expression chain_view shared.old result shared.new }
     {
         let (_, pos) = peek(shared.input)?;
         let settings = settings.at(*pos).level_up()?;

@@ -15,7 +15,7 @@ ghost use Rattle.rhai_grammar.specs.declared.role.StatementStart.TheVariants.{Co
 ghost use Rattle.rhai_base.specs.Comments.{comments_of};
 ghost use Rattle.rhai_base.specs.Frames.{SameSurroundings};
 ghost use Rattle.rhai_parser.specs.Frames.{context_of, live_of};
-ghost use Rattle.rhai_parser.specs.Readers.{Covers, GoesOn, Reads, ended_view, function, function_statement};
+ghost use Rattle.rhai_parser.specs.Readers.{Covers, GoesOn, ReadsAs, ended_view, function, function_statement};
 ghost use Rattle.rhai_parser.specs.Readers.{head_view, names_of, state_of, statement, with_live};
 ghost use Rattle.rhai_reading.specs.Reading.{Goal, fn_on, function_end, private_on, statement_at};
 ghost use Rattle.rhai_reading.specs.Running.{Caller, Gives, Progress, next_item, exec, guarded};
@@ -52,8 +52,7 @@ impl<R: LentReaders> Reader<'_, R> {
         settings: ParseSettings,
     ) -> ParseResult<Stmt>
         requires more { is_end (next_item (state_of shared.old)).lexeme ≡ false }
-        requires lent { Covers (R.lent self.now.readers) (statement self.now.engine.now frame.now settings)
-            shared.old }
+        requires lent { Covers (R.lent self.now.readers) (statement self.now.engine.now frame.now settings) shared.old }
         ensures goes_on { GoesOn shared.old shared.new }
         ensures shorter { OnOk result (left (state_of shared.new).cursor.tokens + 1
             ≤ left (state_of shared.old).cursor.tokens) }
@@ -91,8 +90,7 @@ impl<R: LentReaders> Reader<'_, R> {
     ) -> ParseResult<Stmt>
         requires readable { is_memory (next_item (state_of shared.old)).lexeme ≡ false }
         requires more { is_end (next_item (state_of shared.old)).lexeme ≡ false }
-        requires lent { Covers (R.lent self.now.readers) (statement self.now.engine.now frame.now settings)
-            shared.old }
+        requires lent { Covers (R.lent self.now.readers) (statement self.now.engine.now frame.now settings) shared.old }
         ensures goes_on { GoesOn shared.old shared.new }
         ensures shorter { left (state_of shared.new).cursor.tokens + 1 ≤ left (state_of shared.old).cursor.tokens }
         ensures stays { Stays self.now.engine.now frame.now settings
@@ -122,8 +120,7 @@ impl<R: LentReaders> Reader<'_, R> {
     ) -> ParseResult<Stmt>
         requires readable { is_memory (next_item (state_of shared.old)).lexeme ≡ false }
         requires more { is_end (next_item (state_of shared.old)).lexeme ≡ false }
-        requires lent { Covers (R.lent self.now.readers) (statement self.now.engine.now frame.now settings)
-            shared.old }
+        requires lent { Covers (R.lent self.now.readers) (statement self.now.engine.now frame.now settings) shared.old }
         ensures goes_on { GoesOn shared.old shared.new }
         ensures shorter { left (state_of shared.new).cursor.tokens + 1 ≤ left (state_of shared.old).cursor.tokens }
         ensures stays { Stays self.now.engine.now frame.now settings
@@ -157,14 +154,12 @@ impl<R: LentReaders> Reader<'_, R> {
         first: Position,
         private: bool,
     ) -> ParseResult<Stmt>
-        requires lent { Covers (R.lent self.now.readers) (function_statement self.now.engine.now frame.now settings
-            (comments_of comments.now) first private) shared.old }
-        ensures goes_on { GoesOn shared.old shared.new }
-        ensures stays { Stays self.now.engine.now frame.now settings
-            (function_height self.now.engine.now settings) shared.old shared.new }
-        ensures reads { Reads (function_statement self.now.engine.now frame.now settings
-            (comments_of comments.now) first private) (with_live statement_view frame.now) shared.old result
-            shared.new }
+        requires lent { Covers (R.lent self.now.readers)
+            (function_statement (comments_of comments.now) first private self.now.engine.now frame.now settings)
+            shared.old }
+        ensures { ReadsAs self.now.engine.now frame.now settings (function_height self.now.engine.now settings)
+            (function_statement (comments_of comments.now) first private) (with_live statement_view frame.now)
+            shared.old result shared.new }
     {
         test_function(settings, first)?;
         let limit = self.engine.max_functions();
@@ -196,11 +191,9 @@ impl<R: LentReaders> Reader<'_, R> {
         private: bool,
     ) -> ParseResult<EndedFn>
         requires alone { frame.old.live ≡ nothing_live }
-        requires lent { Covers (R.lent self.now.readers) (function self.now.engine.now frame.old settings
-            (comments_of comments.now) private) shared.old }
-        ensures goes_on { GoesOn shared.old shared.new }
-        ensures stays { Stays self.now.engine.now frame.old settings 0 shared.old shared.new }
-        ensures reads { Reads (function self.now.engine.now frame.old settings (comments_of comments.now) private)
+        requires lent { Covers (R.lent self.now.readers)
+            (function (comments_of comments.now) private self.now.engine.now frame.old settings) shared.old }
+        ensures reads { ReadsAs self.now.engine.now frame.old settings 0 (function (comments_of comments.now) private)
             ended_view shared.old result shared.new }
         ensures named { IfOk result (λ e. is_closure (key_of e.0) ≡ false) }
     {

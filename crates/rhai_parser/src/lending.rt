@@ -7,9 +7,9 @@ ghost use Rattle.rhai_base.specs.Frames.{SameSurroundings};
 ghost use Rattle.rhai_grammar.specs.Cursors.{left};
 ghost use Rattle.rhai_grammar.specs.Statements.{ends_itself};
 ghost use Rattle.rhai_reading.specs.Running.{need};
-ghost use Rattle.rhai_parser.specs.Readers.{GoesOn, Nests, Reads, expression, state_of};
+ghost use Rattle.rhai_parser.specs.Readers.{NestsAs, ReadsAs, expression, state_of};
 ghost use Rattle.rhai_parser.specs.Readers.{statement, statements, statements_of, whole, with_live};
-ghost use Rattle.rhai_parser.specs.Heights.{Stays, function_height};
+ghost use Rattle.rhai_parser.specs.Heights.{function_height};
 ghost use Rattle.rhai_trees.specs.Chains.{chain_view};
 
 use crate::engine::Engine;
@@ -39,21 +39,17 @@ where
         → need (expression engine.now frame.now settings) (state_of shared.now) ≡ n
         → E.pre s.chain engine shared frame settings
         × ((result : _) (after : _) → E.post s.chain engine shared frame settings result after
-        → GoesOn shared.now after.now
-        × (Stays engine.now frame.now settings 1 shared.now after.now
-        × Nests (expression engine.now frame.now settings) chain_view shared.now result after.now)))
+        → NestsAs engine.now frame.now settings 1 expression chain_view shared.now result after.now))
         × ((engine : _) (shared : _) (frame : _) (settings : _)
         → need (statement engine.now frame.now settings) (state_of shared.now) ≡ n
         → S.pre s.stmt engine shared frame settings
         × ((result : _) (after : _) (after_frame : _)
         → S.post s.stmt engine shared frame settings result after after_frame
-        → GoesOn shared.now after.now
-        × (Stays engine.now frame.now settings (2 + function_height engine.now settings) shared.now after.now
+        → NestsAs engine.now frame.now settings (2 + function_height engine.now settings) statement
+        (with_live statement_view after_frame.now) shared.now result after.now
         × (SameSurroundings frame.now after_frame.now
-        × (Nests (statement engine.now frame.now settings) (with_live statement_view after_frame.now) shared.now result
-        after.now
         × IfOk result (λ s. ends_itself (statement_view s) ≡ true
-        → left (state_of after.now).cursor.tokens + 1 ≤ left (state_of shared.now).cursor.tokens)))))) };
+        → left (state_of after.now).cursor.tokens + 1 ≤ left (state_of shared.now).cursor.tokens)))) };
 
     fn parse_chain(
         &self,
@@ -99,9 +95,7 @@ fn parse_chain(
     frame: &Frame<'_>,
     settings: ParseSettings,
 ) -> ParseResult<Chain>
-    ensures goes_on { GoesOn shared.old shared.new }
-    ensures stays { Stays engine.now frame.now settings 1 shared.old shared.new }
-    ensures reads { Nests (expression engine.now frame.now settings) chain_view shared.old result shared.new }
+    ensures { NestsAs engine.now frame.now settings 1 expression chain_view shared.old result shared.new }
 {
     let readers = Lent {
         chain: parse_chain,
@@ -120,12 +114,9 @@ fn parse_stmt(
     frame: &mut Frame<'_>,
     settings: ParseSettings,
 ) -> ParseResult<Stmt>
-    ensures goes_on { GoesOn shared.old shared.new }
-    ensures stays { Stays engine.now frame.old settings
-        (2 + function_height engine.now settings) shared.old shared.new }
+    ensures reads { NestsAs engine.now frame.old settings (2 + function_height engine.now settings) statement
+        (with_live statement_view frame.new) shared.old result shared.new }
     ensures place { SameSurroundings frame.old frame.new }
-    ensures reads { Nests (statement engine.now frame.old settings) (with_live statement_view frame.new) shared.old
-        result shared.new }
     ensures takes { IfOk result (λ s. ends_itself (statement_view s) ≡ true
         → left (state_of shared.new).cursor.tokens + 1 ≤ left (state_of shared.old).cursor.tokens) }
 {
@@ -145,9 +136,7 @@ pub(crate) fn parse_whole_expr(
     frame: &Frame<'_>,
     settings: ParseSettings,
 ) -> ParseResult<Expr>
-    ensures goes_on { GoesOn shared.old shared.new }
-    ensures stays { Stays engine.now frame.now settings 1 shared.old shared.new }
-    ensures reads { Reads (whole engine.now frame.now settings) view shared.old result shared.new }
+    ensures { ReadsAs engine.now frame.now settings 1 whole view shared.old result shared.new }
 {
     let chain = parse_chain(engine, shared, frame, settings)?;
     let expr = chain.nest(engine.alloc())?;
@@ -164,12 +153,9 @@ pub(crate) fn parse_statements(
     settings: ParseSettings,
     closing: Closing,
 ) -> ParseResult<Vec<Stmt>>
-    ensures goes_on { GoesOn shared.old shared.new }
-    ensures stays { Stays engine.now frame.old settings
-        (2 + function_height engine.now settings) shared.old shared.new }
+    ensures reads { ReadsAs engine.now frame.old settings (2 + function_height engine.now settings)
+        (statements closing no_statements) (with_live statements_of frame.new) shared.old result shared.new }
     ensures place { SameSurroundings frame.old frame.new }
-    ensures reads { Reads (statements engine.now frame.old settings closing no_statements)
-        (with_live statements_of frame.new) shared.old result shared.new }
 {
     let readers = Lent {
         chain: parse_chain,

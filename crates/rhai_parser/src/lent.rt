@@ -2,12 +2,12 @@
 
 ghost use Rattle.std.specs.Prelude.{◌≡◌, ◌≤◌, ℕ, ◌+◌, IfOk, true};
 ghost use Rattle.rhai_lower.specs.View.{statement_view, view};
-ghost use Rattle.rhai_parser.specs.Readers.{GoesOn, Nests, expression, state_of, statement, with_live};
+ghost use Rattle.rhai_parser.specs.Readers.{NestsAs, expression, state_of, statement, with_live};
 ghost use Rattle.rhai_base.specs.Frames.{SameSurroundings};
 ghost use Rattle.rhai_grammar.specs.Cursors.{left};
 ghost use Rattle.rhai_grammar.specs.Statements.{ends_itself};
 ghost use Rattle.rhai_reading.specs.Running.{need};
-ghost use Rattle.rhai_parser.specs.Heights.{Stays, function_height};
+ghost use Rattle.rhai_parser.specs.Heights.{function_height};
 ghost use Rattle.rhai_trees.specs.Chains.{chain_view};
 
 use crate::engine::Engine;
@@ -31,9 +31,7 @@ pub trait LentReaders {
         settings: ParseSettings,
     ) -> ParseResult<Chain>
         requires covered { lent self.now (need (expression engine.now frame.now settings) (state_of shared.old)) }
-        ensures goes_on { GoesOn shared.old shared.new }
-        ensures stays { Stays engine.now frame.now settings 1 shared.old shared.new }
-        ensures reads { Nests (expression engine.now frame.now settings) chain_view shared.old result shared.new };
+        ensures { NestsAs engine.now frame.now settings 1 expression chain_view shared.old result shared.new };
 
     /// Reads an expression. The level is raised at its first token.
     fn parse_expr(
@@ -44,9 +42,7 @@ pub trait LentReaders {
         settings: ParseSettings,
     ) -> ParseResult<Expr>
         requires covered { lent self.now (need (expression engine.now frame.now settings) (state_of shared.old)) }
-        ensures goes_on { GoesOn shared.old shared.new }
-        ensures stays { Stays engine.now frame.now settings 1 shared.old shared.new }
-        ensures reads { Nests (expression engine.now frame.now settings) view shared.old result shared.new };
+        ensures { NestsAs engine.now frame.now settings 1 expression view shared.old result shared.new };
 
     /// Reads a statement. The level is raised at its first token.
     fn parse_stmt(
@@ -57,12 +53,9 @@ pub trait LentReaders {
         settings: ParseSettings,
     ) -> ParseResult<Stmt>
         requires covered { lent self.now (need (statement engine.now frame.old settings) (state_of shared.old)) }
-        ensures goes_on { GoesOn shared.old shared.new }
-        ensures stays { Stays engine.now frame.old settings
-            (2 + function_height engine.now settings) shared.old shared.new }
+        ensures reads { NestsAs engine.now frame.old settings (2 + function_height engine.now settings) statement
+            (with_live statement_view frame.new) shared.old result shared.new }
         ensures place { SameSurroundings frame.old frame.new }
-        ensures reads { Nests (statement engine.now frame.old settings) (with_live statement_view frame.new)
-            shared.old result shared.new }
         ensures takes { IfOk result (λ s. ends_itself (statement_view s) ≡ true
             → left (state_of shared.new).cursor.tokens + 1 ≤ left (state_of shared.old).cursor.tokens) };
 }

@@ -8,11 +8,11 @@ pub(crate) mod literals;
 
 ghost use Rattle.std.specs.Prelude.{◌≡◌, false};
 ghost use Rattle.rhai_grammar.specs.Beginnings.{beginning};
-ghost use Rattle.rhai_parser.specs.Readers.{state_of};
+ghost use Rattle.rhai_parser.specs.Readers.{GoesOn, Reads, ReadsAs, state_of};
+ghost use Rattle.rhai_parser.specs.Heights.{Stays};
 ghost use Rattle.rhai_reading.specs.Running.{next_item};
 ghost use Rattle.rhai_parser.specs.PlainPrimaries.{is_plain};
-ghost use Rattle.rhai_parser.specs.Readers.{Covers, GoesOn, Reads, primary};
-ghost use Rattle.rhai_parser.specs.Heights.{Stays};
+ghost use Rattle.rhai_parser.specs.Readers.{Covers, primary};
 ghost use Rattle.rhai_trees.specs.Chains.{chain_view};
 
 use crate::lent::LentReaders;
@@ -38,12 +38,8 @@ impl<R: LentReaders> Reader<'_, R> {
         frame: &Frame<'_>,
         settings: ParseSettings,
     ) -> ParseResult<Chain>
-        requires lent { Covers (R.lent self.now.readers) (primary self.now.engine.now frame.now settings)
-            shared.old }
-        ensures goes_on { GoesOn shared.old shared.new }
-        ensures stays { Stays self.now.engine.now frame.now settings 1 shared.old shared.new }
-        ensures reads { Reads (primary self.now.engine.now frame.now settings) chain_view shared.old result
-            shared.new }
+        requires lent { Covers (R.lent self.now.readers) (primary self.now.engine.now frame.now settings) shared.old }
+        ensures { ReadsAs self.now.engine.now frame.now settings 1 primary chain_view shared.old result shared.new }
     {
         let alloc = self.engine.alloc();
         let (token, pos) = peek(shared.input)?;
@@ -88,8 +84,7 @@ impl<R: LentReaders> Reader<'_, R> {
         settings: ParseSettings,
     ) -> ParseResult<Chain>
         requires compound { is_plain (beginning (next_item (state_of shared.old)).lexeme) ≡ false }
-        requires lent { Covers (R.lent self.now.readers) (primary self.now.engine.now frame.now settings)
-            shared.old }
+        requires lent { Covers (R.lent self.now.readers) (primary self.now.engine.now frame.now settings) shared.old }
         ensures goes_on { GoesOn shared.old shared.new }
         ensures stays { Stays self.now.engine.now frame.now settings 1 shared.old shared.new }
         ensures reads { Reads (primary self.now.engine.now frame.now settings) chain_view shared.old result

@@ -6,7 +6,7 @@ pub(crate) mod definitions;
 ghost use Rattle.std.specs.Prelude.{◌≡◌, ◌+◌, ◌≤◌, IfOk, false, true};
 ghost use Rattle.rhai_lower.specs.Nodes.{no_statements};
 ghost use Rattle.rhai_lower.specs.View.{statement_view, view};
-ghost use Rattle.rhai_parser.specs.Readers.{Covers, GoesOn, Reads, definition, expr_statement, initializer};
+ghost use Rattle.rhai_parser.specs.Readers.{Covers, ReadsAs, definition, expr_statement, initializer};
 ghost use Rattle.rhai_parser.specs.Readers.{statement};
 ghost use Rattle.rhai_parser.specs.Readers.{exported, imported};
 ghost use Rattle.rhai_grammar.specs.Cursors.{left};
@@ -17,7 +17,7 @@ ghost use Rattle.rhai_reading.specs.Running.{next_item};
 ghost use Rattle.rhai_base.specs.Frames.{SameSurroundings};
 ghost use Rattle.rhai_parser.specs.Readers.{inside, jump, state_of, statements, statements_of, with_live};
 ghost use Rattle.rhai_trees.specs.Statements.{optional_view};
-ghost use Rattle.rhai_parser.specs.Heights.{Stays, function_height};
+ghost use Rattle.rhai_parser.specs.Heights.{function_height};
 
 use crate::lent::LentReaders;
 use crate::reader::Reader;
@@ -49,14 +49,12 @@ impl<R: LentReaders> Reader<'_, R> {
         settings: ParseSettings,
         closing: Closing,
     ) -> ParseResult<Vec<Stmt>>
-        requires lent { Covers (R.lent self.now.readers) (statements self.now.engine.now frame.old settings
-            closing no_statements) shared.old }
-        ensures goes_on { GoesOn shared.old shared.new }
-        ensures stays { Stays self.now.engine.now frame.old settings
-            (2 + function_height self.now.engine.now settings) shared.old shared.new }
-        ensures place { SameSurroundings frame.old frame.new }
-        ensures reads { Reads (statements self.now.engine.now frame.old settings closing no_statements)
+        requires lent { Covers (R.lent self.now.readers)
+            (statements closing no_statements self.now.engine.now frame.old settings) shared.old }
+        ensures reads { ReadsAs self.now.engine.now frame.old settings
+            (2 + function_height self.now.engine.now settings) (statements closing no_statements)
             (with_live statements_of frame.new) shared.old result shared.new }
+        ensures place { SameSurroundings frame.old frame.new }
     {
         let mut statements = Vec::new(self.engine.alloc());
         loop {
@@ -86,15 +84,11 @@ impl<R: LentReaders> Reader<'_, R> {
         frame: &mut Frame<'_>,
         settings: ParseSettings,
     ) -> ParseResult<Stmt>
-        requires lent { Covers (R.lent self.now.readers) (statement self.now.engine.now frame.old settings)
-            shared.old }
-        ensures goes_on { GoesOn shared.old shared.new }
-        ensures stays { Stays self.now.engine.now frame.old settings
-            (1 + function_height self.now.engine.now settings) shared.old shared.new }
-        ensures place { SameSurroundings frame.old frame.new }
-        ensures reads { Reads (statement self.now.engine.now frame.old settings)
-            (with_live statement_view frame.new) shared.old
+        requires lent { Covers (R.lent self.now.readers) (statement self.now.engine.now frame.old settings) shared.old }
+        ensures reads { ReadsAs self.now.engine.now frame.old settings
+            (1 + function_height self.now.engine.now settings) statement (with_live statement_view frame.new) shared.old
             result shared.new }
+        ensures place { SameSurroundings frame.old frame.new }
         ensures takes { IfOk result (λ s. ends_itself (statement_view s) ≡ true
             → left (state_of shared.new).cursor.tokens + 1 ≤ left (state_of shared.old).cursor.tokens) }
     {
@@ -125,15 +119,11 @@ impl<R: LentReaders> Reader<'_, R> {
     ) -> ParseResult<Stmt>
         requires keyword { is_rare (statement_start (context_of self.now.engine.now frame.old settings)
             (next_item (state_of shared.old)).lexeme) ≡ true }
-        requires lent { Covers (R.lent self.now.readers) (statement self.now.engine.now frame.old settings)
-            shared.old }
-        ensures goes_on { GoesOn shared.old shared.new }
-        ensures stays { Stays self.now.engine.now frame.old settings
-            (1 + function_height self.now.engine.now settings) shared.old shared.new }
-        ensures place { SameSurroundings frame.old frame.new }
-        ensures reads { Reads (statement self.now.engine.now frame.old settings)
-            (with_live statement_view frame.new) shared.old
+        requires lent { Covers (R.lent self.now.readers) (statement self.now.engine.now frame.old settings) shared.old }
+        ensures reads { ReadsAs self.now.engine.now frame.old settings
+            (1 + function_height self.now.engine.now settings) statement (with_live statement_view frame.new) shared.old
             result shared.new }
+        ensures place { SameSurroundings frame.old frame.new }
         ensures takes { IfOk result (λ s. ends_itself (statement_view s) ≡ true
             → left (state_of shared.new).cursor.tokens + 1 ≤ left (state_of shared.old).cursor.tokens) }
     {
@@ -201,14 +191,10 @@ impl<R: LentReaders> Reader<'_, R> {
         frame: &mut Frame<'_>,
         settings: ParseSettings,
     ) -> ParseResult<Stmt>
-        requires lent { Covers (R.lent self.now.readers) (imported self.now.engine.now frame.old settings)
-            shared.old }
-        ensures goes_on { GoesOn shared.old shared.new }
-        ensures stays { Stays self.now.engine.now frame.old settings 1 shared.old shared.new }
+        requires lent { Covers (R.lent self.now.readers) (imported self.now.engine.now frame.old settings) shared.old }
+        ensures reads { ReadsAs self.now.engine.now frame.old settings 1 imported (with_live statement_view frame.new)
+            shared.old result shared.new }
         ensures place { SameSurroundings frame.old frame.new }
-        ensures reads { Reads (imported self.now.engine.now frame.old settings) (with_live statement_view frame.new)
-            shared.old
-            result shared.new }
     {
         let source = self
             .readers
@@ -227,14 +213,10 @@ impl<R: LentReaders> Reader<'_, R> {
         frame: &mut Frame<'_>,
         settings: ParseSettings,
     ) -> ParseResult<Stmt>
-        requires lent { Covers (R.lent self.now.readers) (exported self.now.engine.now frame.old settings)
-            shared.old }
-        ensures goes_on { GoesOn shared.old shared.new }
-        ensures stays { Stays self.now.engine.now frame.old settings 0 shared.old shared.new }
+        requires lent { Covers (R.lent self.now.readers) (exported self.now.engine.now frame.old settings) shared.old }
+        ensures reads { ReadsAs self.now.engine.now frame.old settings 0 exported (with_live statement_view frame.new)
+            shared.old result shared.new }
         ensures place { SameSurroundings frame.old frame.new }
-        ensures reads { Reads (exported self.now.engine.now frame.old settings) (with_live statement_view frame.new)
-            shared.old
-            result shared.new }
     {
         if let Some(constant) = what_is_exported(shared.input)? {
             let deeper = settings.level_up()?;
@@ -260,13 +242,11 @@ impl<R: LentReaders> Reader<'_, R> {
         constant: bool,
         exported: bool,
     ) -> ParseResult<Stmt>
-        requires lent { Covers (R.lent self.now.readers) (definition self.now.engine.now frame.old settings
-            constant exported) shared.old }
-        ensures goes_on { GoesOn shared.old shared.new }
-        ensures stays { Stays self.now.engine.now frame.old settings 1 shared.old shared.new }
-        ensures place { SameSurroundings frame.old frame.new }
-        ensures reads { Reads (definition self.now.engine.now frame.old settings constant exported)
+        requires lent { Covers (R.lent self.now.readers)
+            (definition constant exported self.now.engine.now frame.old settings) shared.old }
+        ensures reads { ReadsAs self.now.engine.now frame.old settings 1 (definition constant exported)
             (with_live statement_view frame.new) shared.old result shared.new }
+        ensures place { SameSurroundings frame.old frame.new }
     {
         let (name, _) = next_var_name(self.engine, shared, frame, settings)?;
         let value = nested!(shared, self.parse_initializer(shared, frame, settings))?;
@@ -294,9 +274,7 @@ impl<R: LentReaders> Reader<'_, R> {
     ) -> ParseResult<Expr>
         requires lent { Covers (R.lent self.now.readers) (initializer self.now.engine.now frame.now settings)
             shared.old }
-        ensures goes_on { GoesOn shared.old shared.new }
-        ensures stays { Stays self.now.engine.now frame.now settings 0 shared.old shared.new }
-        ensures reads { Reads (initializer self.now.engine.now frame.now settings) view shared.old result shared.new }
+        ensures { ReadsAs self.now.engine.now frame.now settings 0 initializer view shared.old result shared.new }
     {
         if !has_value(shared.input)? {
             return Ok(Expr::Unit(Position::NONE));
@@ -316,10 +294,8 @@ impl<R: LentReaders> Reader<'_, R> {
     ) -> ParseResult<Stmt>
         requires lent { Covers (R.lent self.now.readers) (expr_statement self.now.engine.now frame.now settings)
             shared.old }
-        ensures goes_on { GoesOn shared.old shared.new }
-        ensures stays { Stays self.now.engine.now frame.now settings 1 shared.old shared.new }
-        ensures reads { Reads (expr_statement self.now.engine.now frame.now settings) statement_view shared.old
-            result shared.new }
+        ensures reads { ReadsAs self.now.engine.now frame.now settings 1 expr_statement statement_view shared.old result
+            shared.new }
         ensures open { IfOk result (λ s. ends_itself (statement_view s) ≡ false) }
     {
         let target = self
@@ -344,12 +320,8 @@ impl<R: LentReaders> Reader<'_, R> {
         frame: &Frame<'_>,
         settings: ParseSettings,
     ) -> ParseResult<Vec<Stmt>>
-        requires lent { Covers (R.lent self.now.readers) (inside self.now.engine.now frame.now settings)
-            shared.old }
-        ensures goes_on { GoesOn shared.old shared.new }
-        ensures stays { Stays self.now.engine.now frame.now settings 2 shared.old shared.new }
-        ensures reads { Reads (inside self.now.engine.now frame.now settings) statements_of shared.old result
-            shared.new }
+        requires lent { Covers (R.lent self.now.readers) (inside self.now.engine.now frame.now settings) shared.old }
+        ensures { ReadsAs self.now.engine.now frame.now settings 2 inside statements_of shared.old result shared.new }
     {
         if settings.has_flag(ParseSettingFlags::DISALLOW_STATEMENTS_IN_BLOCKS) {
             let statement = nested!(shared, self.parse_expr_stmt(shared, frame, settings))?;
@@ -369,12 +341,8 @@ impl<R: LentReaders> Reader<'_, R> {
         frame: &Frame<'_>,
         settings: ParseSettings,
     ) -> ParseResult<Option<Expr>>
-        requires lent { Covers (R.lent self.now.readers) (jump self.now.engine.now frame.now settings)
-            shared.old }
-        ensures goes_on { GoesOn shared.old shared.new }
-        ensures stays { Stays self.now.engine.now frame.now settings 0 shared.old shared.new }
-        ensures reads { Reads (jump self.now.engine.now frame.now settings) optional_view shared.old result
-            shared.new }
+        requires lent { Covers (R.lent self.now.readers) (jump self.now.engine.now frame.now settings) shared.old }
+        ensures { ReadsAs self.now.engine.now frame.now settings 0 jump optional_view shared.old result shared.new }
     {
         let (token, _) = peek(shared.input)?;
         let looping = self.engine.allow_looping();

@@ -8,12 +8,12 @@ ghost use Rattle.rhai_lower.specs.View.{statement_view, view};
 ghost use Rattle.rhai_grammar.specs.Cursors.{left};
 ghost use Rattle.rhai_grammar.specs.Switches.{nothing_collected};
 ghost use Rattle.rhai_grammar.specs.declared.role.Construct.TheVariants.{Switch};
-ghost use Rattle.rhai_parser.specs.Readers.{Covers, GoesOn, Reads, action, arm, arms, case, case_guard, cases};
+ghost use Rattle.rhai_parser.specs.Readers.{Covers, GoesOn, Reads, ReadsAs, action, arm, arms, case, case_guard, cases};
+ghost use Rattle.rhai_parser.specs.Heights.{Stays};
 ghost use Rattle.rhai_parser.specs.Readers.{construct};
 ghost use Rattle.rhai_parser.specs.Readers.{default_arm, state_of};
 ghost use Rattle.rhai_parser.specs.Switches.{CaseFrame, action_view, arm_view, cases_view};
 ghost use Rattle.rhai_trees.specs.Arms.{arms_view};
-ghost use Rattle.rhai_parser.specs.Heights.{Stays};
 
 use crate::lent::LentReaders;
 use crate::reader::Reader;
@@ -36,12 +36,9 @@ impl<R: LentReaders> Reader<'_, R> {
         frame: &Frame<'_>,
         settings: ParseSettings,
     ) -> ParseResult<Stmt>
-        requires lent { Covers (R.lent self.now.readers) (construct self.now.engine.now frame.now settings
-            Switch) shared.old }
-        ensures goes_on { GoesOn shared.old shared.new }
-        ensures stays { Stays self.now.engine.now frame.now settings 4 shared.old shared.new }
-        ensures reads { Reads (construct self.now.engine.now frame.now settings Switch) statement_view shared.old
-            result
+        requires lent { Covers (R.lent self.now.readers) (construct Switch self.now.engine.now frame.now settings)
+            shared.old }
+        ensures { ReadsAs self.now.engine.now frame.now settings 4 (construct Switch) statement_view shared.old result
             shared.new }
     {
         let item = self
@@ -61,12 +58,9 @@ impl<R: LentReaders> Reader<'_, R> {
         frame: &Frame<'_>,
         settings: ParseSettings,
     ) -> ParseResult<Arms>
-        requires lent { Covers (R.lent self.now.readers) (arms self.now.engine.now frame.now settings
-            nothing_collected) shared.old }
-        ensures goes_on { GoesOn shared.old shared.new }
-        ensures stays { Stays self.now.engine.now frame.now settings 4 shared.old shared.new }
-        ensures reads { Reads (arms self.now.engine.now frame.now settings nothing_collected) arms_view
-            shared.old result
+        requires lent { Covers (R.lent self.now.readers) (arms nothing_collected self.now.engine.now frame.now settings)
+            shared.old }
+        ensures { ReadsAs self.now.engine.now frame.now settings 4 (arms nothing_collected) arms_view shared.old result
             shared.new }
     {
         let in_cases = frame.in_case(self.engine.alloc());
@@ -109,11 +103,11 @@ impl<R: LentReaders> Reader<'_, R> {
         before: &Arms,
     ) -> ParseResult<Arm>
         requires in_cases { CaseFrame frame.now in_cases.now }
-        requires lent { Covers (R.lent self.now.readers) (arm self.now.engine.now frame.now settings
-            (arms_view before.now)) shared.old }
+        requires lent { Covers (R.lent self.now.readers)
+            (arm (arms_view before.now) self.now.engine.now frame.now settings) shared.old }
         ensures goes_on { GoesOn shared.old shared.new }
         ensures stays { Stays self.now.engine.now frame.now settings 3 shared.old shared.new }
-        ensures reads { Reads (arm self.now.engine.now frame.now settings (arms_view before.now)) arm_view
+        ensures reads { Reads (arm (arms_view before.now) self.now.engine.now frame.now settings) arm_view
             shared.old result
             shared.new }
         ensures shrinks { OnOk result
@@ -140,11 +134,9 @@ impl<R: LentReaders> Reader<'_, R> {
         settings: ParseSettings,
         default: Position,
     ) -> ParseResult<Expr>
-        requires lent { Covers (R.lent self.now.readers) (default_arm self.now.engine.now frame.now settings
-            default) shared.old }
-        ensures goes_on { GoesOn shared.old shared.new }
-        ensures stays { Stays self.now.engine.now frame.now settings 3 shared.old shared.new }
-        ensures reads { Reads (default_arm self.now.engine.now frame.now settings default) view shared.old result
+        requires lent { Covers (R.lent self.now.readers) (default_arm default self.now.engine.now frame.now settings)
+            shared.old }
+        ensures { ReadsAs self.now.engine.now frame.now settings 3 (default_arm default) view shared.old result
             shared.new }
     {
         default_unguarded(shared.input)?;
@@ -168,11 +160,9 @@ impl<R: LentReaders> Reader<'_, R> {
         settings: ParseSettings,
     ) -> ParseResult<SmallVec<Expr, 1>>
         requires in_cases { CaseFrame frame.now in_cases.now }
-        requires lent { Covers (R.lent self.now.readers) (cases self.now.engine.now frame.now settings no_nodes)
+        requires lent { Covers (R.lent self.now.readers) (cases no_nodes self.now.engine.now frame.now settings)
             shared.old }
-        ensures goes_on { GoesOn shared.old shared.new }
-        ensures stays { Stays self.now.engine.now frame.now settings 2 shared.old shared.new }
-        ensures reads { Reads (cases self.now.engine.now frame.now settings no_nodes) cases_view shared.old result
+        ensures { ReadsAs self.now.engine.now frame.now settings 2 (cases no_nodes) cases_view shared.old result
             shared.new }
     {
         let mut cases = SmallVec::new(self.engine.alloc());
@@ -196,11 +186,8 @@ impl<R: LentReaders> Reader<'_, R> {
         settings: ParseSettings,
     ) -> ParseResult<Expr>
         requires in_cases { CaseFrame frame.now in_cases.now }
-        requires lent { Covers (R.lent self.now.readers) (case self.now.engine.now frame.now settings)
-            shared.old }
-        ensures goes_on { GoesOn shared.old shared.new }
-        ensures stays { Stays self.now.engine.now frame.now settings 1 shared.old shared.new }
-        ensures reads { Reads (case self.now.engine.now frame.now settings) view shared.old result shared.new }
+        requires lent { Covers (R.lent self.now.readers) (case self.now.engine.now frame.now settings) shared.old }
+        ensures { ReadsAs self.now.engine.now frame.now settings 1 case view shared.old result shared.new }
     {
         let case = self
             .readers
@@ -218,9 +205,7 @@ impl<R: LentReaders> Reader<'_, R> {
     ) -> ParseResult<Expr>
         requires lent { Covers (R.lent self.now.readers) (case_guard self.now.engine.now frame.now settings)
             shared.old }
-        ensures goes_on { GoesOn shared.old shared.new }
-        ensures stays { Stays self.now.engine.now frame.now settings 2 shared.old shared.new }
-        ensures reads { Reads (case_guard self.now.engine.now frame.now settings) view shared.old result shared.new }
+        ensures { ReadsAs self.now.engine.now frame.now settings 2 case_guard view shared.old result shared.new }
     {
         if !pass_token(shared.input, DueToken::If)? {
             return Ok(no_guard());
@@ -238,12 +223,8 @@ impl<R: LentReaders> Reader<'_, R> {
         frame: &Frame<'_>,
         settings: ParseSettings,
     ) -> ParseResult<Action>
-        requires lent { Covers (R.lent self.now.readers) (action self.now.engine.now frame.now settings)
-            shared.old }
-        ensures goes_on { GoesOn shared.old shared.new }
-        ensures stays { Stays self.now.engine.now frame.now settings 2 shared.old shared.new }
-        ensures reads { Reads (action self.now.engine.now frame.now settings) action_view shared.old result
-            shared.new }
+        requires lent { Covers (R.lent self.now.readers) (action self.now.engine.now frame.now settings) shared.old }
+        ensures { ReadsAs self.now.engine.now frame.now settings 2 action action_view shared.old result shared.new }
     {
         if settings.has_flag(ParseSettingFlags::DISALLOW_STATEMENTS_IN_BLOCKS) {
             let expr = self

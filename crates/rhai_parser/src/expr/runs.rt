@@ -14,7 +14,7 @@ ghost use Rattle.rhai_base.specs.Settings.{IsDeeper, RaisesInRun, settings_of};
 ghost use Rattle.rhai_reading.specs.Reading.{Goal, NextOperator};
 ghost use Rattle.rhai_reading.specs.Running.{Gives, Progress, next_item, exec, guarded};
 ghost use Rattle.rhai_parser.specs.Frames.{context_of, live_of};
-ghost use Rattle.rhai_parser.specs.Readers.{Covers, GoesOn, Reads, binary_op, state_of};
+ghost use Rattle.rhai_parser.specs.Readers.{Covers, GoesOn, ReadsAs, binary_op, state_of};
 ghost use Rattle.rhai_parser.specs.Heights.{Stays};
 ghost use Rattle.rhai_parser.specs.Runs.{NextIs, in_run, right_side, side_view};
 
@@ -205,12 +205,11 @@ impl<R: LentReaders> Reader<'_, R> {
         parent: u8,
         lhs: Chain,
     ) -> ParseResult<Chain>
-        requires lent { Covers (R.lent self.now.readers) (binary_op self.now.engine.now frame.now settings
-            (position_of (chain_view lhs)) parent (chain_view lhs)) shared.old }
-        ensures goes_on { GoesOn shared.old shared.new }
-        ensures stays { Stays self.now.engine.now frame.now settings 5 shared.old shared.new }
-        ensures reads { Reads (binary_op self.now.engine.now frame.now settings (position_of (chain_view lhs)) parent
-            (chain_view lhs)) chain_view shared.old result shared.new }
+        requires lent { Covers (R.lent self.now.readers)
+            (binary_op (position_of (chain_view lhs)) parent (chain_view lhs) self.now.engine.now frame.now settings)
+            shared.old }
+        ensures { ReadsAs self.now.engine.now frame.now settings 5
+            (binary_op (position_of (chain_view lhs)) parent (chain_view lhs)) chain_view shared.old result shared.new }
     {
         let next = next_operator(self.engine.alloc(), frame.filter(), shared)?;
         if in_run(next, parent).is_none() {
@@ -239,12 +238,11 @@ impl<R: LentReaders> Reader<'_, R> {
         requires next { NextIs frame.now.filter next (state_of shared.old) }
         requires readable { is_memory (next_item (state_of shared.old)).lexeme ≡ false }
         requires more { IsSome next → is_end (next_item (state_of shared.old)).lexeme ≡ false }
-        requires lent { Covers (R.lent self.now.readers) (binary_op self.now.engine.now frame.now settings
-            (position_of (chain_view lhs)) parent (chain_view lhs)) shared.old }
-        ensures goes_on { GoesOn shared.old shared.new }
-        ensures stays { Stays self.now.engine.now frame.now settings 5 shared.old shared.new }
-        ensures reads { Reads (binary_op self.now.engine.now frame.now settings (position_of (chain_view lhs)) parent
-            (chain_view lhs)) chain_view shared.old result shared.new }
+        requires lent { Covers (R.lent self.now.readers)
+            (binary_op (position_of (chain_view lhs)) parent (chain_view lhs) self.now.engine.now frame.now settings)
+            shared.old }
+        ensures { ReadsAs self.now.engine.now frame.now settings 5
+            (binary_op (position_of (chain_view lhs)) parent (chain_view lhs)) chain_view shared.old result shared.new }
     {
         let alloc = self.engine.alloc();
         let mut next = next;

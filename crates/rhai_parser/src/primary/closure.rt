@@ -8,9 +8,9 @@ ghost use Rattle.rhai_reading.specs.Reading.{closure_end};
 ghost use Rattle.rhai_reading.specs.Running.{Caller, Gives, exec};
 ghost use Rattle.rhai_parser.specs.Frames.{context_of, live_of};
 ghost use Rattle.rhai_parser.specs.Engines.{EngineValue};
-ghost use Rattle.rhai_parser.specs.Readers.{Covers, GoesOn, Reads, names_of, state_of};
+ghost use Rattle.rhai_parser.specs.Readers.{Covers, GoesOn, ReadsAs, names_of, state_of};
 ghost use Rattle.rhai_parser.specs.Closures.{UsesAll, closure, closure_body, closure_parameters};
-ghost use Rattle.rhai_parser.specs.Heights.{Ends, Stays, Steady, function_height};
+ghost use Rattle.rhai_parser.specs.Heights.{Ends, Steady, function_height};
 
 use crate::lent::LentReaders;
 use crate::parameters::{declare_parameters, next_parameters};
@@ -36,11 +36,9 @@ impl<R: LentReaders> Reader<'_, R> {
         settings: ParseSettings,
         bars: Bars,
     ) -> ParseResult<Chain>
-        requires lent { Covers (R.lent self.now.readers) (closure self.now.engine.now frame.now settings bars)
+        requires lent { Covers (R.lent self.now.readers) (closure bars self.now.engine.now frame.now settings)
             shared.old }
-        ensures goes_on { GoesOn shared.old shared.new }
-        ensures stays { Stays self.now.engine.now frame.now settings 0 shared.old shared.new }
-        ensures reads { Reads (closure self.now.engine.now frame.now settings bars) chain_view shared.old result
+        ensures { ReadsAs self.now.engine.now frame.now settings 0 (closure bars) chain_view shared.old result
             shared.new }
     {
         let alloc = self.engine.alloc();
@@ -69,11 +67,8 @@ impl<R: LentReaders> Reader<'_, R> {
     ) -> ParseResult<Stmt>
         requires lent { Covers (R.lent self.now.readers) (closure_body self.now.engine.now frame.old settings)
             shared.old }
-        ensures goes_on { GoesOn shared.old shared.new }
-        ensures stays { Stays self.now.engine.now frame.old settings
-            (2 + function_height self.now.engine.now settings) shared.old shared.new }
-        ensures reads { Reads (closure_body self.now.engine.now frame.old settings) statement_view shared.old
-            result shared.new }
+        ensures { ReadsAs self.now.engine.now frame.old settings (2 + function_height self.now.engine.now settings)
+            closure_body statement_view shared.old result shared.new }
     {
         if let Some(end) = ends_here(shared.input)? {
             return Ok(Stmt::Noop(end));

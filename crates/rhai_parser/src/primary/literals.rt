@@ -1,11 +1,10 @@
 //! The readers of arrays, of object maps and of interpolated strings.
 
 ghost use Rattle.rhai_lower.specs.Nodes.{no_nodes, no_properties};
-ghost use Rattle.rhai_parser.specs.Readers.{Covers, GoesOn, Reads, elements, fields, properties_of, segments};
+ghost use Rattle.rhai_parser.specs.Readers.{Covers, ReadsAs, elements, fields, properties_of, segments};
 ghost use Rattle.rhai_parser.specs.Readers.{views_of};
 ghost use Rattle.rhai_grammar.specs.Interpolations.{added_text};
 ghost use Rattle.std.specs.Rc.{rc_str_bytes};
-ghost use Rattle.rhai_parser.specs.Heights.{Stays};
 
 use crate::lent::LentReaders;
 use crate::primary::asks::next_key;
@@ -33,11 +32,9 @@ impl<R: LentReaders> Reader<'_, R> {
         frame: &Frame<'_>,
         settings: ParseSettings,
     ) -> ParseResult<Vec<Expr>>
-        requires lent { Covers (R.lent self.now.readers) (elements self.now.engine.now frame.now settings
-            no_nodes) shared.old }
-        ensures goes_on { GoesOn shared.old shared.new }
-        ensures stays { Stays self.now.engine.now frame.now settings 0 shared.old shared.new }
-        ensures reads { Reads (elements self.now.engine.now frame.now settings no_nodes) views_of shared.old result
+        requires lent { Covers (R.lent self.now.readers) (elements no_nodes self.now.engine.now frame.now settings)
+            shared.old }
+        ensures { ReadsAs self.now.engine.now frame.now settings 0 (elements no_nodes) views_of shared.old result
             shared.new }
     {
         let limit = self.engine.max_array_size();
@@ -70,13 +67,10 @@ impl<R: LentReaders> Reader<'_, R> {
         frame: &Frame<'_>,
         settings: ParseSettings,
     ) -> ParseResult<Vec<(Ident, Expr)>>
-        requires lent { Covers (R.lent self.now.readers) (fields self.now.engine.now frame.now settings
-            no_properties) shared.old }
-        ensures goes_on { GoesOn shared.old shared.new }
-        ensures stays { Stays self.now.engine.now frame.now settings 0 shared.old shared.new }
-        ensures reads { Reads (fields self.now.engine.now frame.now settings no_properties) properties_of shared.old
-            result
-            shared.new }
+        requires lent { Covers (R.lent self.now.readers) (fields no_properties self.now.engine.now frame.now settings)
+            shared.old }
+        ensures { ReadsAs self.now.engine.now frame.now settings 0 (fields no_properties) properties_of shared.old
+            result shared.new }
     {
         let mut properties = NamedList::new(self.engine.alloc());
         loop {
@@ -103,13 +97,11 @@ impl<R: LentReaders> Reader<'_, R> {
         settings: ParseSettings,
         first: RcStr,
     ) -> ParseResult<Vec<Expr>>
-        requires lent { Covers (R.lent self.now.readers) (segments self.now.engine.now frame.now settings
-            (added_text no_nodes (rc_str_bytes first) settings.pos)) shared.old }
-        ensures goes_on { GoesOn shared.old shared.new }
-        ensures stays { Stays self.now.engine.now frame.now settings 0 shared.old shared.new }
-        ensures reads { Reads (segments self.now.engine.now frame.now settings
-            (added_text no_nodes (rc_str_bytes first)
-            settings.pos)) views_of shared.old result shared.new }
+        requires lent { Covers (R.lent self.now.readers)
+            (segments (added_text no_nodes (rc_str_bytes first) settings.pos) self.now.engine.now frame.now settings)
+            shared.old }
+        ensures { ReadsAs self.now.engine.now frame.now settings 0
+            (segments (added_text no_nodes (rc_str_bytes first) settings.pos)) views_of shared.old result shared.new }
     {
         let mut segments = Vec::new(self.engine.alloc());
         push_text(&mut segments, first, settings.pos)?;

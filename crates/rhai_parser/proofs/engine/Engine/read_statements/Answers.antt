@@ -16,7 +16,7 @@ returns-clause-reads c =
     let view = with_live statements_of c.parse_statements-statements.new.frame in
     let from : List Use → Progress = λ us. record { cursor = cursor_of c.args.input.now; library = library_of c.args.library.now; captured = us; nesting = nesting_of c.args.counts.now } in
     let none : uses_of c.new.result ≡ [] = ap uses_of c.new.ensures in
-    let new = subst (λ us. Gives view (result_of (Script (context_of c.args.self.now c.args.frame c.args.settings) c.args.frame.live) (from us)) c.parse_statements-statements.result (state_of left)) none c.parse_statements-statements.ensures.reads in (
+    let new = subst (λ us. Gives view (result_of (Script (context_of c.args.self.now c.args.frame c.args.settings) c.args.frame.live) (from us)) c.parse_statements-statements.result (state_of left)) none c.parse_statements-statements.ensures.reads.reads in (
       c.parse_statements-statements.new.frame.live,
       uses_of left.captured,
       search rules,
@@ -27,4 +27,4 @@ returns-clause-reads c =
 pub returns-clause-stays : goal.returns-clause-stays
 returns-clause-stays c =
     stays_read c.args.self.now c.args.frame c.args.settings _ c.parse_statements-statements.new.shared
-    c.parse_statements-statements.ensures.stays
+    c.parse_statements-statements.ensures.reads.stays

@@ -2,4 +2,4 @@ use Rattle.std.proofs.Common.{refl}
 use Rattle.rhai_parser.proofs.lending.LentLentReaders.parse_chain.Goals as goal
 
 pub returns : goal.returns
-returns g c = let told = (c.requires.covered.0 _ _ _ _ refl).1 _ _ c.chain.ensures in record { goes_on = told.0; stays = told.1.0; reads = told.1.1 }
+returns g c = (c.requires.covered.0 _ _ _ _ refl).1 _ _ c.chain.ensures

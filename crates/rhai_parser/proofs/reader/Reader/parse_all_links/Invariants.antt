@@ -12,7 +12,7 @@ use Rattle.rhai_parser.proofs.reader.Reader.parse_all_links.Given as goal
 
 abbrev pub invariant-loop-links : goal.invariant-loop-links
 invariant-loop-links g l = record {
-  same : result_of (links l.fn.self.engine.now l.fn.frame l.fn.settings (chain_view l.fn.lhs)) (state_of l.fn.shared) ≡ result_of (Links (live_of l.frame) (record { settings = context_of l.self.engine.now l.frame l.settings; brackets = context_of l.self.engine.now l.frame l.brackets; indexed = indexed_by (chain_view l.fn.lhs) (linked l.links); before = linked l.links })) (state_of l.shared);
+  same : result_of (links (chain_view l.fn.lhs) l.fn.self.engine.now l.fn.frame l.fn.settings) (state_of l.fn.shared) ≡ result_of (Links (live_of l.frame) (record { settings = context_of l.self.engine.now l.frame l.settings; brackets = context_of l.self.engine.now l.frame l.brackets; indexed = indexed_by (chain_view l.fn.lhs) (linked l.links); before = linked l.links })) (state_of l.shared);
   goes_on : GoesOn l.fn.shared l.shared;
   stays : Stays l.self.engine.now l.frame l.fn.settings 0 l.fn.shared l.shared;
   limit : l.settings.max_expr_depth ≡ l.fn.settings.max_expr_depth;

@@ -9,5 +9,5 @@ use Rattle.rhai_parser.proofs.ConstructReaders as rule
 
 pub returns-clause-reads : goal.returns-clause-reads
 returns-clause-reads g c =
-    let call = guarded (arm c.args.self.now.engine.now c.args.frame.now c.args.settings (arms_view c.args.before.now)) (state_of c.args.shared.now) in
+    let call = guarded (arm (arms_view c.args.before.now) c.args.self.now.engine.now c.args.frame.now c.args.settings) (state_of c.args.shared.now) in
     gives_so arm_view c.end_arm.result (state_of c.end_arm.new.shared) (grind (arith, rule.parse_arm)) (c.end_arm.ensures.gives call (grind (arith, rule.parse_arm)))

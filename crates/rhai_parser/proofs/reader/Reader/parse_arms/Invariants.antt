@@ -9,7 +9,7 @@ use Rattle.rhai_parser.proofs.reader.Reader.parse_arms.Given as goal
 
 abbrev pub invariant-loop-arms : goal.invariant-loop-arms
 invariant-loop-arms g l = record {
-  same : result_of (arms l.fn.self.engine.now l.fn.frame l.fn.settings nothing_collected) (state_of l.fn.shared) ≡ result_of (arms l.self.engine.now l.frame l.settings (arms_view l.arms)) (state_of l.shared);
+  same : result_of (arms nothing_collected l.fn.self.engine.now l.fn.frame l.fn.settings) (state_of l.fn.shared) ≡ result_of (arms (arms_view l.arms) l.self.engine.now l.frame l.settings) (state_of l.shared);
   goes_on : GoesOn l.fn.shared l.shared;
   indexed : Indexed l.arms;
   stays : Stays l.self.engine.now l.frame l.settings 4 l.fn.shared l.shared;

@@ -8,7 +8,7 @@ use Rattle.rhai_parser.proofs.reader.Reader.parse_array_literal.Given as goal
 
 abbrev pub invariant-loop-items : goal.invariant-loop-items
 invariant-loop-items g l = record {
-  same : result_of (elements l.fn.self.engine.now l.fn.frame l.fn.settings no_nodes) (state_of l.fn.shared) ≡ result_of (elements l.self.engine.now l.frame l.settings (views_of l.items)) (state_of l.shared);
+  same : result_of (elements no_nodes l.fn.self.engine.now l.fn.frame l.fn.settings) (state_of l.fn.shared) ≡ result_of (elements (views_of l.items) l.self.engine.now l.frame l.settings) (state_of l.shared);
   goes_on : GoesOn l.fn.shared l.shared;
   stays : Stays l.self.engine.now l.frame l.settings 0 l.fn.shared l.shared;
 }

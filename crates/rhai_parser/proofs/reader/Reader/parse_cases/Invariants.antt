@@ -9,7 +9,7 @@ use Rattle.rhai_parser.proofs.reader.Reader.parse_cases.Given as goal
 
 abbrev pub invariant-loop-cases : goal.invariant-loop-cases
 invariant-loop-cases g l = record {
-  same : result_of (cases l.fn.self.engine.now l.fn.frame l.fn.settings no_nodes) (state_of l.fn.shared) ≡ result_of (cases l.self.engine.now l.frame l.settings (cases_view l.cases)) (state_of l.shared);
+  same : result_of (cases no_nodes l.fn.self.engine.now l.fn.frame l.fn.settings) (state_of l.fn.shared) ≡ result_of (cases (cases_view l.cases) l.self.engine.now l.frame l.settings) (state_of l.shared);
   goes_on : GoesOn l.fn.shared l.shared;
   stays : Stays l.self.engine.now l.frame l.settings 2 l.fn.shared l.shared;
 }

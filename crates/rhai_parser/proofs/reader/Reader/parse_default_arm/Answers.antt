@@ -6,7 +6,11 @@ use Rattle.rhai_parser.proofs.reader.Reader.parse_default_arm.Goals as goal
 use Rattle.rhai_parser.proofs.Given.{gives_so}
 use Rattle.rhai_parser.proofs.ConstructReaders as rule
 
-pub returns-clause-reads : goal.returns-clause-reads
-returns-clause-reads g c =
-    let call = guarded (default_arm c.args.self.now.engine.now c.args.frame.now c.args.settings c.args.default) (state_of c.args.shared.now) in
-    gives_so view c.end_default.result (state_of c.end_default.new.shared) (grind (arith, rule.parse_default_arm)) (c.end_default.ensures.gives call (grind (arith, rule.parse_default_arm)) (λ t le. grind (arith, le, rule.parse_default_arm)))
+pub returns : goal.returns
+returns g c = record {
+  goes_on = grind arith;
+  stays = grind arith;
+  reads =
+      let call = guarded (default_arm c.args.default c.args.self.now.engine.now c.args.frame.now c.args.settings) (state_of c.args.shared.now) in
+      gives_so view c.end_default.result (state_of c.end_default.new.shared) (grind (arith, rule.parse_default_arm)) (c.end_default.ensures.gives call (grind (arith, rule.parse_default_arm)) (λ t le. grind (arith, le, rule.parse_default_arm)));
+}

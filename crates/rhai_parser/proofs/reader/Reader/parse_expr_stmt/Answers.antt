@@ -6,7 +6,18 @@ use Rattle.rhai_parser.proofs.reader.Reader.parse_expr_stmt.Goals as goal
 use Rattle.rhai_parser.proofs.Given.{gives_so}
 use Rattle.rhai_parser.proofs.StmtReaders as rule
 
+pub returns-in_err-value-clause-reads : goal.returns-in_err-value-clause-reads
+returns-in_err-value-clause-reads g c = record {
+  goes_on = grind arith;
+  stays = grind arith;
+  reads = grind (arith, rule.parse_expr_stmt);
+}
+
 pub returns-clause-reads : goal.returns-clause-reads
-returns-clause-reads g c =
-    let call = guarded (expr_statement c.args.self.now.engine.now c.args.frame.now c.args.settings) (state_of c.args.shared.now) in
-    gives_so statement_view c.end_assignment.result (state_of c.parse_expr-2.new.shared) (grind (arith, rule.parse_expr_stmt)) (c.end_assignment.ensures.gives call _)
+returns-clause-reads g c = record {
+  goes_on = grind arith;
+  stays = grind arith;
+  reads =
+      let call = guarded (expr_statement c.args.self.now.engine.now c.args.frame.now c.args.settings) (state_of c.args.shared.now) in
+      gives_so statement_view c.end_assignment.result (state_of c.parse_expr-2.new.shared) (grind (arith, rule.parse_expr_stmt)) (c.end_assignment.ensures.gives call _);
+}

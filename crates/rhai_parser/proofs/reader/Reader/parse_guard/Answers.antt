@@ -6,7 +6,11 @@ use Rattle.rhai_parser.proofs.reader.Reader.parse_guard.Goals as goal
 use Rattle.rhai_parser.proofs.Given.{gives_so}
 use Rattle.rhai_parser.proofs.ConstructReaders as rule
 
-pub returns-clause-reads : goal.returns-clause-reads
-returns-clause-reads g c =
-    let call = guarded (guard c.args.self.now.engine.now c.args.frame.now c.args.settings) (state_of c.args.shared.now) in
-    gives_so view c.end_guard.result (state_of c.end_guard.new.shared) (grind (arith, rule.parse_guard)) (c.end_guard.ensures.gives call)
+pub returns : goal.returns
+returns g c = record {
+  goes_on = grind arith;
+  stays = grind arith;
+  reads =
+      let call = guarded (guard c.args.self.now.engine.now c.args.frame.now c.args.settings) (state_of c.args.shared.now) in
+      gives_so view c.end_guard.result (state_of c.end_guard.new.shared) (grind (arith, rule.parse_guard)) (c.end_guard.ensures.gives call);
+}

@@ -7,7 +7,11 @@ use Rattle.rhai_parser.proofs.Given.{gives_so}
 use Rattle.rhai_parser.proofs.ExprReaders as rule
 use Rattle.rhai_parser.proofs.reader.Reader.parse_index.Goals as goal
 
-pub returns-clause-reads : goal.returns-clause-reads
-returns-clause-reads g c =
-    let call = guarded (index c.args.self.now.engine.now c.args.frame.now c.args.settings (option_map (λ x. chain_view x.now) c.args.indexed)) (state_of c.args.shared.now) in
-    gives_so view c.end_index.result (state_of c.end_index.new.shared) (grind (arith, rule.parse_index)) (c.end_index.ensures.gives call)
+pub returns : goal.returns
+returns g c = record {
+  goes_on = grind arith;
+  stays = grind arith;
+  reads =
+      let call = guarded (index (option_map (λ x. chain_view x.now) c.args.indexed) c.args.self.now.engine.now c.args.frame.now c.args.settings) (state_of c.args.shared.now) in
+      gives_so view c.end_index.result (state_of c.end_index.new.shared) (grind (arith, rule.parse_index)) (c.end_index.ensures.gives call);
+}

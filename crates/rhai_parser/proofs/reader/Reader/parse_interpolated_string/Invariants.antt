@@ -10,7 +10,7 @@ use Rattle.rhai_parser.proofs.reader.Reader.parse_interpolated_string.Given as g
 
 abbrev pub invariant-loop-segments : goal.invariant-loop-segments
 invariant-loop-segments g l = record {
-  same : result_of (segments l.fn.self.engine.now l.fn.frame l.fn.settings (added_text no_nodes (rc_str_bytes l.fn.first) l.fn.settings.pos)) (state_of l.fn.shared) ≡ result_of (segments l.self.engine.now l.frame l.settings (views_of l.segments)) (state_of l.shared);
+  same : result_of (segments (added_text no_nodes (rc_str_bytes l.fn.first) l.fn.settings.pos) l.fn.self.engine.now l.fn.frame l.fn.settings) (state_of l.fn.shared) ≡ result_of (segments (views_of l.segments) l.self.engine.now l.frame l.settings) (state_of l.shared);
   goes_on : GoesOn l.fn.shared l.shared;
   stays : Stays l.self.engine.now l.frame l.settings 0 l.fn.shared l.shared;
 }

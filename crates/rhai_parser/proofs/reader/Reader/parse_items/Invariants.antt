@@ -8,7 +8,7 @@ use Rattle.rhai_parser.proofs.reader.Reader.parse_items.Given as goal
 
 abbrev pub invariant-loop-items : goal.invariant-loop-items
 invariant-loop-items g l = record {
-  same : result_of (items l.fn.self.engine.now l.fn.frame l.fn.settings no_nodes) (state_of l.fn.shared) ≡ result_of (items l.self.engine.now l.frame l.settings (views_of l.items)) (state_of l.shared);
+  same : result_of (items no_nodes l.fn.self.engine.now l.fn.frame l.fn.settings) (state_of l.fn.shared) ≡ result_of (items (views_of l.items) l.self.engine.now l.frame l.settings) (state_of l.shared);
   goes_on : GoesOn l.fn.shared l.shared;
   stays : Stays l.self.engine.now l.frame l.settings 1 l.fn.shared l.shared;
 }

@@ -6,7 +6,11 @@ use Rattle.rhai_parser.proofs.reader.Reader.parse_iterated.Goals as goal
 use Rattle.rhai_parser.proofs.Given.{gives_so}
 use Rattle.rhai_parser.proofs.ConstructReaders as rule
 
-pub returns-clause-reads : goal.returns-clause-reads
-returns-clause-reads g c =
-    let call = guarded (iterated c.args.self.now.engine.now c.args.frame.now c.args.settings) (state_of c.args.shared.now) in
-    gives_so view c.end_iterated.result (state_of c.parse_expr.new.shared) (grind (arith, rule.parse_iterated)) (c.end_iterated.ensures.gives call _)
+pub returns : goal.returns
+returns g c = record {
+  goes_on = grind arith;
+  stays = grind arith;
+  reads =
+      let call = guarded (iterated c.args.self.now.engine.now c.args.frame.now c.args.settings) (state_of c.args.shared.now) in
+      gives_so view c.end_iterated.result (state_of c.parse_expr.new.shared) (grind (arith, rule.parse_iterated)) (c.end_iterated.ensures.gives call _);
+}

@@ -7,8 +7,12 @@ use Rattle.rhai_parser.specs.ExprViews.{linked}
 use Rattle.rhai_reading.proofs.Steps.{looked}
 use Rattle.rhai_parser.proofs.reader.Reader.parse_links.Goals as goal
 
-pub returns-in-Bracket-clause-reads : goal.returns-in-Bracket-clause-reads
-returns-in-Bracket-clause-reads g c =
-    let goal = links c.args.self.now.engine.now c.args.frame.now c.args.settings (chain_view c.args.lhs.now) in
-    gives_so linked c.parse_all_links.result (state_of c.parse_all_links.new.shared)
-    (sym (looked goal _ (state_of c.args.shared.now) refl) ∙ ap (result_of goal) (grind arith)) c.parse_all_links.ensures.reads
+pub returns-in-Bracket : goal.returns-in-Bracket
+returns-in-Bracket g c = record {
+  goes_on = grind arith;
+  stays = grind arith;
+  reads =
+      let goal = links (chain_view c.args.lhs.now) c.args.self.now.engine.now c.args.frame.now c.args.settings in
+      gives_so linked c.parse_all_links.result (state_of c.parse_all_links.new.shared)
+      (sym (looked goal _ (state_of c.args.shared.now) refl) ∙ ap (result_of goal) (grind arith)) c.parse_all_links.ensures.reads;
+}

@@ -9,7 +9,7 @@ use Rattle.rhai_parser.proofs.reader.Reader.parse_map_literal.Given as goal
 
 abbrev pub invariant-loop-properties : goal.invariant-loop-properties
 invariant-loop-properties g l = record {
-  same : result_of (fields l.fn.self.engine.now l.fn.frame l.fn.settings no_properties) (state_of l.fn.shared) ≡ result_of (fields l.self.engine.now l.frame l.settings (property_views l.properties)) (state_of l.shared);
+  same : result_of (fields no_properties l.fn.self.engine.now l.fn.frame l.fn.settings) (state_of l.fn.shared) ≡ result_of (fields (property_views l.properties) l.self.engine.now l.frame l.settings) (state_of l.shared);
   goes_on : GoesOn l.fn.shared l.shared;
   stays : Stays l.self.engine.now l.frame l.settings 0 l.fn.shared l.shared;
 }

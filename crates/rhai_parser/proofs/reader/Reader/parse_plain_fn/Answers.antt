@@ -15,7 +15,7 @@ returns-clause-reads g c = λ h s within.
     let engine = c.args.self.now.engine.now in
     let frame = c.args.frame.now in
     let comments = comments_of c.args.comments.now in
-    let read = result_of (function_statement engine frame c.args.settings comments c.args.settings.pos false) in
+    let read = result_of (function_statement comments c.args.settings.pos false engine frame c.args.settings) in
     let from = state_at c.args.shared.now (cursor_of c.skip.new.input) in
     gives_so (with_live statement_view frame) c.parse_fn-read.result (state_of c.leave.new.self)
     (plain_read h s (context_of engine frame c.args.settings) (live_of frame) comments c.args.settings.pos (state_of c.args.shared.now) from c.requires.readable

@@ -29,17 +29,21 @@ loop-operator-init g c = record {
   less = grind arith;
 }
 
-pub returns-in_err-side-clause-reads : goal.returns-in_err-side-clause-reads
-returns-in_err-side-clause-reads g c =
-    let p = err_from_is_err_and c.from_residual.result c.from_residual.ensures.1 in
-    let run = c.loop-operator.run in
-    let s = state_of c.loop-operator.shared in
-    let found = run_goes_on (context_of c.args.self.now.engine.now c.args.frame.now run.settings) (live_of c.args.frame.now) run.settings.pos run.parent (chain_view run.lhs) s c.loop-operator.next c.loop-operator.invariant.next c.in-Some.operator (sym c.in_run.ensures ∙ c.in-Some.is) in
-    let read = c.in_err-side.ensures.reads (binary_op c.args.self.now.engine.now c.args.frame.now run.settings run.settings.pos run.parent (chain_view run.lhs)) s (omega (arith)) in
-    rw (p.1, p.2) (
-      λ told. awaits_refused c.loop-operator.invariant.awaits (right_refused _ _ _ _ _ c.in-Some.operator.strength _ s _ _ found (read.0 told)),
-      read.1,
-    )
+pub returns-in_err-side : goal.returns-in_err-side
+returns-in_err-side g c = record {
+  goes_on = grind arith;
+  stays = grind arith;
+  reads =
+      let p = err_from_is_err_and c.from_residual.result c.from_residual.ensures.1 in
+      let run = c.loop-operator.run in
+      let s = state_of c.loop-operator.shared in
+      let found = run_goes_on (context_of c.args.self.now.engine.now c.args.frame.now run.settings) (live_of c.args.frame.now) run.settings.pos run.parent (chain_view run.lhs) s c.loop-operator.next c.loop-operator.invariant.next c.in-Some.operator (sym c.in_run.ensures ∙ c.in-Some.is) in
+      let read = c.in_err-side.ensures.reads (binary_op run.settings.pos run.parent (chain_view run.lhs) c.args.self.now.engine.now c.args.frame.now run.settings) s (omega (arith)) in
+      rw (p.1, p.2) (
+        λ told. awaits_refused c.loop-operator.invariant.awaits (right_refused _ _ _ _ _ c.in-Some.operator.strength _ s _ _ found (read.0 told)),
+        read.1,
+      );
+}
 
 -- an operator that goes on with the run, and the operand after it
 pushes : (g : _) (c : After-after-outer g) → Pushes c.args.self.now.engine.now c.args.frame.now c.args.settings c.loop-operator.run.settings c.after-outer.result.1.settings c.loop-operator.run.parent (chain_view c.loop-operator.run.lhs) c.in-Some.operator.strength (chain_view c.after-outer.result.1.lhs) c.after-outer.result.0 (state_of c.loop-operator.shared) (state_of c.loop-operator.shared) (state_of c.parse_operator.new.shared)
@@ -56,7 +60,7 @@ pushes g c =
     let less : 1 ≤ start.max_expr_depth → levels_left side.deeper.next ≤ levels_left start = grind arith in
     record {
       found = run_goes_on (context_of c.args.self.now.engine.now c.args.frame.now run.settings) (live_of c.args.frame.now) run.settings.pos run.parent (chain_view run.lhs) s c.loop-operator.next c.loop-operator.invariant.next c.in-Some.operator (sym c.in_run.ensures ∙ c.in-Some.is);
-      reads = c.in_ok-side.ensures.reads (binary_op c.args.self.now.engine.now c.args.frame.now run.settings run.settings.pos run.parent (chain_view run.lhs)) s (omega (arith))
+      reads = c.in_ok-side.ensures.reads (binary_op run.settings.pos run.parent (chain_view run.lhs) c.args.self.now.engine.now c.args.frame.now run.settings) s (omega (arith))
           ∙ ap (λ (o : Token). Done (lexeme o, side.pos, chain_view side.rhs) t) (sym is.operator.0)
           ∙ ap (λ (at : Position). Done (lexeme outer.op_token, at, chain_view side.rhs) t) (sym is.operator.1)
           ∙ ap (λ (x : Chain). Done (lexeme outer.op_token, outer.pos, chain_view x) t) (sym is.side.0);
@@ -90,7 +94,7 @@ loop-operator-preserved-then-is_some g c =
 
 -- the operator waits for the operand after it alone, where no other goes on with that
 waits_alone : (g : _) (c : After-join g) → Awaits c.args.self.now.engine.now c.args.frame.now c.args.settings (left (state_of c.parse_operator.new.shared).cursor.tokens) (c.loop-operator.pending.items ++ c.after-outer.result.0 ∷ [])
-    (result_of (binary_op c.args.self.now.engine.now c.args.frame.now c.args.settings (position_of (chain_view c.args.lhs)) c.args.parent (chain_view c.args.lhs)) (state_of c.args.shared.now))
+    (result_of (binary_op (position_of (chain_view c.args.lhs)) c.args.parent (chain_view c.args.lhs) c.args.self.now.engine.now c.args.frame.now c.args.settings) (state_of c.args.shared.now))
     (Done (chain_view c.after-outer.result.1.lhs) (state_of c.parse_operator.new.shared))
 waits_alone g c =
     let side = c.after-outer.result.1 in
@@ -116,32 +120,44 @@ loop-operator-preserved-else-is_some g c =
       less = λ some. subst (λ (d : ParseSettings). levels_left d ≤ levels_left start) (sym rest.1) (popped_less awaits _ _ _ _ refl refl some);
     }
 
-pub returns-in_err-run-clause-reads : goal.returns-in_err-run-clause-reads
-returns-in_err-run-clause-reads g c =
-    let p = err_from_is_err_and c.from_residual-in_err-run.result c.from_residual-in_err-run.ensures.1 in
-    rw (p.1, p.2) (
-      λ told. popped_refused (waits_alone g (goal.at.returns-in_err-run-clause-reads g c).After-join) _ _ _ _ refl refl (c.in_err-run.ensures.answers told),
-      c.in_err-run.ensures.nowhere,
-    )
+pub returns-in_err-run : goal.returns-in_err-run
+returns-in_err-run g c = record {
+  goes_on = grind arith;
+  stays = grind arith;
+  reads =
+      let p = err_from_is_err_and c.from_residual-in_err-run.result c.from_residual-in_err-run.ensures.1 in
+      rw (p.1, p.2) (
+        λ told. popped_refused (waits_alone g (goal.at.returns-in_err-run g c).After-join) _ _ _ _ refl refl (c.in_err-run.ensures.answers told),
+        c.in_err-run.ensures.nowhere,
+      );
+}
 
-pub returns-in_default-pop-clause-reads : goal.returns-in_default-pop-clause-reads
-returns-in_default-pop-clause-reads g c =
-    let run = c.loop-operator.run in
-    let empty : c.loop-operator.pending.items ≡ [] = search rules in
-    let none : c.in_run.result ≡ None = search rules in
-    awaits_done c.loop-operator.invariant.awaits empty (run_ends (context_of c.args.self.now.engine.now c.args.frame.now run.settings) (live_of c.args.frame.now) run.settings.pos run.parent (chain_view run.lhs) (state_of c.loop-operator.shared) c.loop-operator.next c.loop-operator.invariant.next (sym c.in_run.ensures ∙ none))
+pub returns-in_default-pop : goal.returns-in_default-pop
+returns-in_default-pop g c = record {
+  goes_on = grind arith;
+  stays = grind arith;
+  reads =
+      let run = c.loop-operator.run in
+      let empty : c.loop-operator.pending.items ≡ [] = search rules in
+      let none : c.in_run.result ≡ None = search rules in
+      awaits_done c.loop-operator.invariant.awaits empty (run_ends (context_of c.args.self.now.engine.now c.args.frame.now run.settings) (live_of c.args.frame.now) run.settings.pos run.parent (chain_view run.lhs) (state_of c.loop-operator.shared) c.loop-operator.next c.loop-operator.invariant.next (sym c.in_run.ensures ∙ none));
+}
 
-pub returns-in_err-run-2-clause-reads : goal.returns-in_err-run-2-clause-reads
-returns-in_err-run-2-clause-reads g c =
-    let run = c.loop-operator.run in
-    let p = err_from_is_err_and c.from_residual-in_err-run-2.result c.from_residual-in_err-run-2.ensures.1 in
-    let last : c.loop-operator.pending.items ≡ c.pop.new.self.items ++ c.in-Some-pop.outer ∷ [] = c.in-Some-pop.ensures.items in
-    let none : c.in_run.result ≡ None = search rules in
-    let ends = run_ends (context_of c.args.self.now.engine.now c.args.frame.now run.settings) (live_of c.args.frame.now) run.settings.pos run.parent (chain_view run.lhs) (state_of c.loop-operator.shared) c.loop-operator.next c.loop-operator.invariant.next (sym c.in_run.ensures ∙ none) in
-    rw (p.1, p.2) (
-      λ told. popped_refused c.loop-operator.invariant.awaits _ _ _ _ last ends (c.in_err-run-2.ensures.answers told),
-      c.in_err-run-2.ensures.nowhere,
-    )
+pub returns-in_err-run-2 : goal.returns-in_err-run-2
+returns-in_err-run-2 g c = record {
+  goes_on = grind arith;
+  stays = grind arith;
+  reads =
+      let run = c.loop-operator.run in
+      let p = err_from_is_err_and c.from_residual-in_err-run-2.result c.from_residual-in_err-run-2.ensures.1 in
+      let last : c.loop-operator.pending.items ≡ c.pop.new.self.items ++ c.in-Some-pop.outer ∷ [] = c.in-Some-pop.ensures.items in
+      let none : c.in_run.result ≡ None = search rules in
+      let ends = run_ends (context_of c.args.self.now.engine.now c.args.frame.now run.settings) (live_of c.args.frame.now) run.settings.pos run.parent (chain_view run.lhs) (state_of c.loop-operator.shared) c.loop-operator.next c.loop-operator.invariant.next (sym c.in_run.ensures ∙ none) in
+      rw (p.1, p.2) (
+        λ told. popped_refused c.loop-operator.invariant.awaits _ _ _ _ last ends (c.in_err-run-2.ensures.answers told),
+        c.in_err-run-2.ensures.nowhere,
+      );
+}
 
 pub loop-operator-preserved : goal.loop-operator-preserved
 loop-operator-preserved g c =

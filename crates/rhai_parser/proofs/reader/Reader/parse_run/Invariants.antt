@@ -14,8 +14,8 @@ use Rattle.rhai_parser.proofs.reader.Reader.parse_run.Given as goal
 abbrev pub invariant-loop-operator : goal.invariant-loop-operator
 invariant-loop-operator g l = record {
   awaits : Awaits l.self.engine.now l.frame l.fn.settings (left (state_of l.shared).cursor.tokens) l.pending.items
-      (result_of (binary_op l.fn.self.engine.now l.fn.frame l.fn.settings (position_of (chain_view l.fn.lhs)) l.fn.parent (chain_view l.fn.lhs)) (state_of l.fn.shared))
-      (result_of (binary_op l.self.engine.now l.frame l.run.settings l.run.settings.pos l.run.parent (chain_view l.run.lhs)) (state_of l.shared));
+      (result_of (binary_op (position_of (chain_view l.fn.lhs)) l.fn.parent (chain_view l.fn.lhs) l.fn.self.engine.now l.fn.frame l.fn.settings) (state_of l.fn.shared))
+      (result_of (binary_op l.run.settings.pos l.run.parent (chain_view l.run.lhs) l.self.engine.now l.frame l.run.settings) (state_of l.shared));
   next : NextIs l.frame.filter l.next (state_of l.shared);
   readable : is_memory (next_item (state_of l.shared)).lexeme ≡ false;
   more : IsSome l.next → is_end (next_item (state_of l.shared)).lexeme ≡ false;

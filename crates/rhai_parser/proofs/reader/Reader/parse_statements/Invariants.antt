@@ -9,7 +9,7 @@ use Rattle.rhai_parser.proofs.reader.Reader.parse_statements.Given as goal
 
 abbrev pub invariant-loop-statements : goal.invariant-loop-statements
 invariant-loop-statements g l = record {
-  same : result_of (statements l.fn.self.engine.now l.fn.frame l.fn.settings l.fn.closing no_statements) (state_of l.fn.shared) ≡ result_of (statements l.self.engine.now l.frame l.settings l.closing (statements_of l.statements)) (state_of l.shared);
+  same : result_of (statements l.fn.closing no_statements l.fn.self.engine.now l.fn.frame l.fn.settings) (state_of l.fn.shared) ≡ result_of (statements l.closing (statements_of l.statements) l.self.engine.now l.frame l.settings) (state_of l.shared);
   goes_on : GoesOn l.fn.shared l.shared;
   stays : Stays l.self.engine.now l.fn.frame l.settings (2 + function_height l.self.engine.now l.settings) l.fn.shared l.shared;
   place : SameSurroundings l.fn.frame l.frame;
