@@ -1,13 +1,14 @@
 #!/usr/bin/env python3
 """Tries the wrong bodies of tests/edits. The prover has to refuse each; then the commit is kept.
 
-usage: tests/edits.py [CRATE|EDIT ..]
+usage: tests/edits.py [--together] [CRATE|EDIT ..]
        tests/edits.py --old|--check
 
 An EDIT is a file, as tests/edits/rhai_base/nest_peak_is_always_0.edit. Without names all are tried, in a copy of the
 crates that the edit needs. Run `rt all check` before: the copy then has what that proved, so most edits take a minute.
 Of each that is refused, tests/edits/refused.tsv keeps the commit, the seconds, and what was not proved. Nothing is
-kept where files below crates/ are not as they were committed.
+kept where files below crates/ are not as they were committed. With --together one check tries all edits of a crate that
+change different functions: a function is proved from the contracts of the others, so each is refused for itself.
 
 --old lists the edits that were never refused, or before the function that they change, or a definition that its
 contract names, became what it is now. --check tries nothing: it fails if an edit cannot be applied, or if the table
@@ -138,21 +139,78 @@ def answer(printed):
     return last.startswith("logic=not-proved"), where if code or owed else f"a proof by hand: {where}"
 
 
-def tried(edit, home):
-    """Tries an edit in a copy. Answers whether it was refused, the seconds, and what was not proved."""
-    begun, saved = time.time(), {}
-    for file, old, new in changes(edit):
+def applied(edits, home):
+    """Puts edits into a copy. Answers the texts of the files that they change, as they were."""
+    saved = {}
+    for file, old, new in (change for edit in edits for change in changes(edit)):
         path = home / file
         text = path.read_text(encoding="utf-8")
         saved.setdefault(path, text)
         path.unlink()
         path.write_text(text.replace(old, new), encoding="utf-8")
+    return saved
+
+
+def check_of(edits, home):
+    """Checks a copy with these edits. Answers what was printed, and the seconds."""
+    begun, saved = time.time(), applied(edits, home)
     try:
-        refused, why = answer(run("rt", "check", folder=home))
+        printed = run("rt", "check", folder=home)
     finally:
         for path, text in saved.items():
             path.write_text(text, encoding="utf-8")
-    return refused, time.time() - begun, why
+    return printed, time.time() - begun
+
+
+def tried(edit, home):
+    """Tries an edit in a copy. Answers whether it was refused, the seconds, and what was not proved."""
+    printed, seconds = check_of([edit], home)
+    refused, why = answer(printed)
+    return refused, seconds, why
+
+
+def functions_of(edit):
+    """Answers the functions that an edit changes, each as a file and a name; nothing if it changes more than functions
+    and what is brought in."""
+    found = set()
+    for file, old, _ in changes(edit):
+        lines = (ROOT / "crates" / crate_of(edit) / file).read_text(encoding="utf-8").splitlines()
+        at = next(n for n, line in enumerate(lines) if old in line)
+        name = re.search(r"\bfn (\w+)", item_at(lines, at)[0])
+        if not file.startswith("src/") or not (name or re.match("(ghost )?use ", lines[at])):
+            return set()
+        found |= {(file, name.group(1))} if name else set()
+    return found
+
+
+def groups(edits):
+    """Answers the edits in groups in each of which all change different functions; others stand alone."""
+    found = []
+    for edit in edits:
+        functions = functions_of(edit)
+        group = next((it for it in found if functions and it[0] and not it[0] & functions), None)
+        if group is None:
+            found.append(group := [set(), []])
+        group[0] |= functions
+        group[1].append(edit)
+    return [group for _, group in found]
+
+
+def refusals(printed, file, name):
+    """Answers what was printed of a function that is not proved."""
+    module = "::".join(pathlib.PurePath(file).with_suffix("").parts[1:]).removesuffix("lib").removesuffix("::mod")
+    head = re.compile(rf"^fn \w+::{module}(::[\w<>]+)*::\+?{name}: (not proved|no proof)(.*)$", re.MULTILINE)
+    return [it.group(2) + it.group(3) for it in head.finditer(printed)]
+
+
+def tried_together(edits, home):
+    """Tries edits of different functions in one check of a copy. Yields each with the same as `tried`; the seconds are
+    those of the check, shared."""
+    printed, seconds = check_of(edits, home)
+    ended = any(line.startswith("logic=not-proved") for line in printed.splitlines())
+    for edit in edits:
+        said = [why for function in functions_of(edit) for why in refusals(printed, *function)]
+        yield edit, bool(said) if ended else None, seconds / len(edits), (said or [""])[0][:200]
 
 
 def keep(edit, seconds, why):
@@ -165,13 +223,21 @@ def keep(edit, seconds, why):
     write_table(rows)
 
 
-def try_crate(crate, edits):
+def answers_of(edits, home, together):
+    """Yields each edit with whether it was refused, the seconds, and what was not proved."""
+    for group in groups(edits) if together else [[edit] for edit in edits]:
+        if len(group) > 1:
+            yield from tried_together(group, home)
+        else:
+            yield group[0], *tried(group[0], home)
+
+
+def try_crate(crate, edits, together):
     """Tries edits of one crate. Answers how many were not refused."""
     failed = 0
     with tempfile.TemporaryDirectory(prefix="edits-") as room:
         copy_for(crate, pathlib.Path(room))
-        for edit in edits:
-            refused, seconds, why = tried(edit, pathlib.Path(room) / "crates" / crate)
+        for edit, refused, seconds, why in answers_of(edits, pathlib.Path(room) / "crates" / crate, together):
             word = {True: "refused", False: "NOT REFUSED", None: "NOT TRIED"}[refused]
             print(f"{crate}/{edit.name}: {word} in {seconds:.0f} s: {why}", flush=True)
             if refused and edit.parent.parent == EDITS:
@@ -185,7 +251,7 @@ def try_crate(crate, edits):
 
 def item_at(lines, at):
     """Answers the function around a line, or else the whole item: its lines."""
-    heads = [n for n in range(at, -1, -1) if re.match(r"\s*(pub )?(const )?fn ", lines[n])]
+    heads = [n for n in range(at, -1, -1) if re.match(r"\s*(pub(\(\w+\))? )?(const )?fn ", lines[n])]
     head = heads[0] if heads else at
     indent = len(lines[head]) - len(lines[head].lstrip())
     end = next((n for n in range(head, len(lines)) if lines[n].rstrip() == " " * indent + "}"), len(lines) - 1)
@@ -283,6 +349,7 @@ def main():
     parser = argparse.ArgumentParser(description=__doc__, formatter_class=argparse.RawDescriptionHelpFormatter)
     parser.add_argument("--old", action="store_true", help="list the edits that are older than what they change")
     parser.add_argument("--check", action="store_true", help="only test that each edit can be applied")
+    parser.add_argument("--together", action="store_true", help="try edits of different functions in one check")
     parser.add_argument("names", nargs="*", metavar="CRATE|EDIT", help="crates, or files of edits")
     words = parser.parse_args()
     every = sorted(EDITS.glob("*/*.edit"))
@@ -298,7 +365,8 @@ def main():
     if unknown:
         sys.exit(f"there is no {unknown[0]}")
     crates = sorted({crate_of(edit) for edit in named})
-    failed = sum(try_crate(crate, [edit for edit in named if crate_of(edit) == crate]) for crate in crates)
+    of_crates = {crate: [edit for edit in named if crate_of(edit) == crate] for crate in crates}
+    failed = sum(try_crate(crate, edits, words.together) for crate, edits in of_crates.items())
     print(f"{len(named) - failed} refused, {failed} not")
     sys.exit(failed > 0)
 

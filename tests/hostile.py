@@ -36,6 +36,7 @@ import wrong
 RUNS_OF_A_TASK = 20
 RUNS_AT_A_LEVEL = 100  # of a task
 SHOWN_TO_WRONG_PROGRAMS = 40  # one run in so many
+LIBRARIES_SHOWN = 10  # one run with functions in so many
 
 
 def damaged_lists(program, runs):
@@ -108,7 +109,7 @@ def wrong_programs(program):
 def wrong_libraries(tests):
     """Checks that the tests find each list after which a wrong program has a wrong library."""
     runs = libraries.runs_with_functions(stored.list_runs())
-    return list(wrong.check_libraries(tests, runs[::SHOWN_TO_WRONG_PROGRAMS])), {}
+    return list(wrong.check_libraries(tests, runs[::LIBRARIES_SHOWN])), {}
 
 
 def built(library, crate, name):

@@ -14,6 +14,13 @@ from entries import given
 TEST = "lists::the_library_after_a_list"
 
 
+class Range(NamedTuple):
+    """How many functions and closures have ended, at least and at most."""
+
+    fewest: int
+    most: int
+
+
 class State(NamedTuple):
     """What is printed."""
 
@@ -70,16 +77,21 @@ def wrong_after_request(run, found):
     return f"{run.name}: {fewest} to {most} functions have ended: {found}"
 
 
-def wrong_in_the_end(run, read, found):
-    """What is wrong with what is printed after the whole run, which reads so many tokens. Where it is refused, what
-    ends with the last of them may be what is refused."""
+def in_the_end(run, read):
+    """How many have ended after the whole run, which reads so many tokens. Where it is refused, what ends with the last
+    of them may be what is refused, so refusals.txt says how many it is."""
     # (the end mark may have been looked at too, but is no token that is read)
     looked_at = [min(it.looked_at, len(run.lines) - 1) for it in ended(run.lines, run.words)]
-    fewest = sum(count < read or run.first == "accepted" for count in looked_at)
-    most = sum(count <= read or run.first == "accepted" for count in looked_at)
-    if found is not None and found.first == run.first and holds(run, found, fewest, most):
+    if run.first == "accepted":
+        return Range(len(looked_at), len(looked_at))
+    return Range(sum(count < read for count in looked_at), sum(count <= read for count in looked_at))
+
+
+def wrong_in_the_end(run, count, found):
+    """What is wrong with what is printed after the whole run, in which so many have ended."""
+    if found is not None and found.first == run.first and holds(run, found, count, count):
         return None
-    return f"{run.name}: {fewest} to {most} functions are in the library in the end: {found}"
+    return f"{run.name}: {count} functions are in the library in the end: {found}"
 
 
 def wrong_on_the_way(run, printed):
@@ -93,14 +105,14 @@ def wrong_on_the_way(run, printed):
     return next(filter(None, (wrong_after_request(run, found) for found in printed)), None)
 
 
-def wrong_after_requests(run, read, answers):
-    """What is wrong with the answers where each request is refused in turn; the last one is without a refused
-    request."""
+def wrong_after_requests(run, count, answers):
+    """What is wrong with the answers where each request is refused in turn; the last one is without a refused request,
+    and then so many functions have ended."""
     states = [state(answer) for answer in answers]
     if any((found is None) != (answer.status != 0) for found, answer in zip(states, answers)):
         return f"{run.name}: what is printed, and the status, do not agree"
     printed = [found for found in states[:-1] if found is not None]
-    return wrong_in_the_end(run, read, states[-1]) or wrong_on_the_way(run, printed)
+    return wrong_in_the_end(run, count, states[-1]) or wrong_on_the_way(run, printed)
 
 
 def places_read(run, stored):
@@ -115,5 +127,5 @@ def check_run(program, run, stored):
     answers = program.answers((TEST,), [given(run, damage.list) for damage in damages])
     found = [wrong_without_memory(run, damage.place, answer) for damage, answer in zip(damages, answers)]
     after = program.answers((TEST,), [given(run, run.list)], refuse=True)
-    found.append(wrong_after_requests(run, stored.tokens_read(run), after))
+    found.append(wrong_after_requests(run, stored.functions_ended(run), after))
     return found, sum(answer.was_refused for answer in after)

@@ -3,9 +3,10 @@
 
 It has to have the command line and formats of docs/FORMAT.md, and never is the program under test.
 
-usage: tests/hostile/store.py PROGRAM [WORD ..]
+usage: tests/hostile/store.py PROGRAM LIBRARY [WORD ..]
 
-Each WORD is given to PROGRAM after the words of a run.
+Each WORD is given to PROGRAM after the words of a run. With the word LIBRARY too it prints after a refusal, as after a
+script, how many functions there are, as `functions 1`.
 """
 
 import os
@@ -18,12 +19,13 @@ sys.path.insert(0, str(pathlib.Path(__file__).resolve().parent))
 
 import batch
 import damaged
+import libraries
 import stored
 
 HEADS = {
     stored.REFUSALS: """\
 # Answers to damaged lists that no rule gives (README.md, which says how they were made): for runs of a case how many
-# tokens they read, and for a damaged token, counted from 1, the whole answer.
+# tokens they read, how many functions have ended, and for a damaged token, counted from 1, the whole answer.
 """,
     stored.TREES: """\
 # Checksums of the answers to lists that are cut and accepted (README.md, which says how they were made): for an entry
@@ -88,7 +90,18 @@ def by_words(runs):
         yield from (same[at : at + RUNS_AT_ONCE] for at in range(0, len(same), RUNS_AT_ONCE))
 
 
-def all_answers(program, runs):
+def ended_lines(program, library, run, read):
+    """The line of how many functions have ended in the end of a run, if no rule says it."""
+    fewest, most = libraries.in_the_end(run, read)
+    if fewest == most:
+        return []
+    answer = program.answers((*run.words, library), [run.list])[0]
+    if answer.first != run.first:
+        raise ValueError(f"{run.name}: {answer.first}")
+    return [f"ended {answer.text.split('functions ')[1].split()[0]}"]
+
+
+def all_answers(program, library, runs):
     """What is to be stored: words of runs by case and lines, and checksums by case, entry and place."""
     refusals, trees, known = {}, {}, stored.Stored(runs, {}, {})
     for same in by_words(runs):
@@ -96,6 +109,7 @@ def all_answers(program, runs):
             read = read_by(run, found)
             lines, cuts = answers_of(run, found, read, known)
             texts = [f"reads {read}"] if read != damaged.tokens_read(run) else []
+            texts += ended_lines(program, library, run, read)
             if texts or lines:
                 refusals.setdefault((run.case, (*texts, *joined(lines))), []).append(" ".join(run.words))
             trees.setdefault(run.case, {}).setdefault(run.words[0], {}).update(cuts)
@@ -143,9 +157,9 @@ def main():
     runs = stored.list_runs()
     cases = list(dict.fromkeys(run.case for run in runs))
     with tempfile.TemporaryDirectory() as folder:
-        library = batch.compile_forks(folder)
-        program = batch.Program(library, os.path.realpath(sys.argv[1]), tuple(sys.argv[2:]))
-        refusals, trees = all_answers(program, runs)
+        forks = batch.compile_forks(folder)
+        program = batch.Program(forks, os.path.realpath(sys.argv[1]), tuple(sys.argv[3:]))
+        refusals, trees = all_answers(program, sys.argv[2], runs)
     write(stored.REFUSALS, cases, refusal_lines(refusals))
     write(stored.TREES, cases, tree_lines(trees))
 

@@ -7,6 +7,7 @@ from typing import NamedTuple
 
 import table
 from damaged import tokens_read
+from libraries import in_the_end
 
 FOLDER = pathlib.Path(__file__).parent
 REFUSALS, TREES = FOLDER / "refusals.txt", FOLDER / "trees.txt"
@@ -27,16 +28,17 @@ class Lines(NamedTuple):
     """What refusals.txt says of a run."""
 
     reads: int | None  # how many tokens it reads, if not as many as by the rule
+    ended: int | None  # how many functions have ended in the end, if no rule says it
     answers: dict  # by place and kind of damage
 
 
 def lines_of(texts):
     """What these lines say. `all` are errors and the cut."""
-    found = Lines(None, {})
+    found = Lines(None, None, {})
     for text in texts:
         place, kind, *answer = text.split(" ", 2)
-        if place == "reads":
-            found = found._replace(reads=int(kind))
+        if place in ("reads", "ended"):
+            found = found._replace(**{place: int(kind)})
             continue
         for one in ("errors", "cut") if kind == "all" else (kind,):
             found.answers[int(place) - 1, one] = answer[0]
@@ -97,11 +99,25 @@ class Stored:
         lines = self.refusals.get((run.case, run.words))
         return tokens_read(run) if lines is None or lines.reads is None else lines.reads
 
+    def functions_ended(self, run):
+        """How many functions and closures have ended in the end of a run."""
+        lines, by_rule = self.refusals.get((run.case, run.words)), in_the_end(run, self.tokens_read(run))
+        if lines is not None and lines.ended is not None:
+            return lines.ended
+        if by_rule.fewest != by_rule.most:
+            raise ValueError("refusals.txt lacks how many functions have ended")
+        return by_rule.fewest
+
     def answer(self, run, damage):
         lines = self.refusals.get((run.case, run.words))
         if lines is None or damage.what == "memory":
             return None
         return lines.answers.get((damage.place, damage.kind))
+
+    def lacks_ended(self, run, count):
+        """Whether no rule says how many functions have ended in the end of a run, and it may be so many."""
+        fewest, most = in_the_end(run, self.tokens_read(run))
+        return fewest < most and fewest <= count <= most
 
     def same_list(self, run, damage):
         """The answer of the table to the same tokens. Where the end mark stands makes no difference to it."""
@@ -125,6 +141,8 @@ class Stored:
                 yield f"refusals.txt: {key}: `reads` is needless"
             elif any(place >= self.tokens_read(by_name[key]) for place, _ in lines.answers):
                 yield f"refusals.txt: {key}: a token that is not read"
+            elif lines.ended is not None and not self.lacks_ended(by_name[key], lines.ended):
+                yield f"refusals.txt: {key}: `ended` is needless, or cannot be"
         entries = {(run.case, run.words[0]): run for run in runs}
         for case, entry, place in self.trees:
             run = entries.get((case, entry))
