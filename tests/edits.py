@@ -18,6 +18,7 @@ those, and --check looks at them too.
 
 import argparse
 import functools
+import os
 import pathlib
 import re
 import shutil
@@ -261,6 +262,12 @@ def item_at(lines, at):
     return lines[head : end + 1]
 
 
+def paragraph_at(lines, at):
+    """Answers the lines around a line up to the next empty ones: in specs/, a definition."""
+    begin = next((n + 1 for n in range(at, -1, -1) if not lines[n]), 0)
+    return lines[begin : next((n for n in range(at, len(lines)) if not lines[n]), len(lines))]
+
+
 @functools.cache
 def at_commit(commit, file):
     """Answers the text of a file at a commit; it is empty where there is none."""
@@ -272,7 +279,8 @@ def changed_item(commit, file, old):
     """Answers the item around a text in a file of a commit, as one string; it is empty where the text is not there."""
     lines = at_commit(commit, file).splitlines()
     at = next((n for n, line in enumerate(lines) if old in line), None)
-    return "" if at is None else "\n".join(line.strip() for line in item_at(lines, at))
+    around = item_at if file.endswith(".rt") else paragraph_at
+    return "" if at is None else "\n".join(line.strip() for line in around(lines, at))
 
 
 @functools.cache
@@ -308,10 +316,10 @@ def why_older(edit, commit):
     if not run("git", "cat-file", "-t", commit).startswith("commit"):
         return "its commit is not here"
     for file, old, _ in changes(edit):
-        file = f"crates/{crate_of(edit)}/{file}"
+        file = os.path.normpath(f"crates/{crate_of(edit)}/{file}")
         now = changed_item("HEAD", file, old)
         if now != changed_item(commit, file, old):
-            return f"the function in {file}"
+            return f"{'the function' if file.endswith('.rt') else 'the definition'} in {file}"
         words = contract_words(now)
         before, after = cited(commit, file, words), cited("HEAD", file, words)
         changed = sorted(word for word in after if before.get(word) != after[word])
