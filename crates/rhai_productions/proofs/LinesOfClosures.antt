@@ -50,4 +50,5 @@ lines_of_closures = record {
   refused_30 = refuses _ refl refl;
   refused_31 = refuses _ refl refl;
   refused_32 = refuses _ refl refl;
+  refused_33 = refuses _ refl refl;
 }

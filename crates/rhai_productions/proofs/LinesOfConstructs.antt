@@ -25,6 +25,7 @@ lines_of_constructs = record {
   read_13 = reads_script _ _ refl refl refl;
   read_14 = reads_script _ _ refl refl refl;
   read_15 = reads_script _ _ refl refl refl;
+  read_16 = reads_script _ _ refl refl refl;
   refused_1 = refuses _ refl refl;
   refused_2 = refuses _ refl refl;
   refused_3 = refuses _ refl refl;
@@ -58,4 +59,5 @@ lines_of_constructs = record {
   refused_31 = refuses _ refl refl;
   refused_32 = refuses _ refl refl;
   refused_33 = refuses _ refl refl;
+  refused_34 = refuses _ refl refl;
 }

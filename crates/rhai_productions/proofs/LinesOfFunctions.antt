@@ -19,6 +19,7 @@ lines_of_functions = record {
   read_7 = reads_script _ _ refl refl refl;
   read_8 = reads_script _ _ refl refl refl;
   read_9 = reads_script _ _ refl refl refl;
+  read_10 = reads_script _ _ refl refl refl;
   refused_1 = refuses _ refl refl;
   refused_2 = refuses _ refl refl;
   refused_3 = refuses _ refl refl;
@@ -53,4 +54,5 @@ lines_of_functions = record {
   refused_32 = refuses _ refl refl;
   refused_33 = refuses _ refl refl;
   refused_34 = refuses _ refl refl;
+  refused_35 = refuses _ refl refl;
 }

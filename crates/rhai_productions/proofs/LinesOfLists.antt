@@ -66,4 +66,7 @@ lines_of_lists = record {
   refused_35 = refuses _ refl refl;
   refused_36 = refuses _ refl refl;
   refused_37 = refuses _ refl refl;
+  refused_38 = refuses _ refl refl;
+  refused_39 = refuses _ refl refl;
+  refused_40 = refuses _ refl refl;
 }

@@ -26,6 +26,8 @@ lines_of_loops = record {
   read_14 = reads_script _ _ refl refl refl;
   read_15 = reads_script _ _ refl refl refl;
   read_16 = reads_script _ _ refl refl refl;
+  read_17 = reads_script _ _ refl refl refl;
+  read_18 = reads_script _ _ refl refl refl;
   refused_1 = refuses _ refl refl;
   refused_2 = refuses _ refl refl;
   refused_3 = refuses _ refl refl;
@@ -66,4 +68,5 @@ lines_of_loops = record {
   refused_38 = refuses _ refl refl;
   refused_39 = refuses _ refl refl;
   refused_40 = refuses _ refl refl;
+  refused_41 = refuses _ refl refl;
 }

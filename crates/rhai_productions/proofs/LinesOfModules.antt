@@ -18,6 +18,9 @@ lines_of_modules = record {
   read_6 = reads _ refl refl refl;
   read_7 = reads_script _ _ refl refl refl;
   read_8 = reads_script _ _ refl refl refl;
+  read_9 = reads _ refl refl refl;
+  read_10 = reads_script _ _ refl refl refl;
+  read_11 = reads_script _ _ refl refl refl;
   refused_1 = refuses _ refl refl;
   refused_2 = refuses _ refl refl;
   refused_3 = refuses _ refl refl;
@@ -46,4 +49,5 @@ lines_of_modules = record {
   refused_26 = refuses _ refl refl;
   refused_27 = refuses _ refl refl;
   refused_28 = refuses _ refl refl;
+  refused_29 = refuses _ refl refl;
 }

@@ -24,6 +24,7 @@ lines_of_operands = record {
   read_12 = reads _ refl refl refl;
   read_13 = reads _ refl refl refl;
   read_14 = reads _ refl refl refl;
+  read_15 = reads _ refl refl refl;
   refused_1 = refuses _ refl refl;
   refused_2 = refuses _ refl refl;
   refused_3 = refuses _ refl refl;
@@ -78,4 +79,9 @@ lines_of_operands = record {
   refused_52 = refuses _ refl refl;
   refused_53 = refuses _ refl refl;
   refused_54 = refuses _ refl refl;
+  refused_55 = refuses _ refl refl;
+  refused_56 = refuses _ refl refl;
+  refused_57 = refuses _ refl refl;
+  refused_58 = refuses _ refl refl;
+  refused_59 = refuses _ refl refl;
 }

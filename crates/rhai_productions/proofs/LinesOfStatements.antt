@@ -26,6 +26,7 @@ lines_of_statements = record {
   read_14 = reads_script _ _ refl refl refl;
   read_15 = reads_script _ _ refl refl refl;
   read_16 = reads_script _ _ refl refl refl;
+  read_17 = reads_script _ _ refl refl refl;
   refused_1 = refuses _ refl refl;
   refused_2 = refuses _ refl refl;
   refused_3 = refuses _ refl refl;

@@ -18,6 +18,8 @@ lines_of_switches = record {
   read_6 = reads_script _ _ refl refl refl;
   read_7 = reads _ refl refl refl;
   read_8 = reads_script _ _ refl refl refl;
+  read_9 = reads_script _ _ refl refl refl;
+  read_10 = reads_script _ _ refl refl refl;
   refused_1 = refuses _ refl refl;
   refused_2 = refuses _ refl refl;
   refused_3 = refuses _ refl refl;
@@ -44,4 +46,8 @@ lines_of_switches = record {
   refused_24 = refuses _ refl refl;
   refused_25 = refuses _ refl refl;
   refused_26 = refuses _ refl refl;
+  refused_27 = refuses _ refl refl;
+  refused_28 = refuses _ refl refl;
+  refused_29 = refuses _ refl refl;
+  refused_30 = refuses _ refl refl;
 }

@@ -1,6 +1,6 @@
 -- Lines of tokens that are calls, chains and interpolated strings, and lines that are refused there.
 use Rattle.std.specs.Prelude.{None, false, true, codes, pos, [], ◌∷◌}
-use Rattle.rhai_lower.specs.Lexemes.{Integer, String, Name, Reserved, Interpolated, Sign}
+use Rattle.rhai_lower.specs.Lexemes.{Faulty, Integer, String, Name, Reserved, Interpolated, Sign, UnexpectedInput}
 use Rattle.rhai_lower.specs.Nodes as node
 use Rattle.rhai_lower.specs.Positions.{place}
 use Rattle.rhai_lower.specs.declared.token.Token.TheVariants as token
@@ -139,6 +139,13 @@ pub record LinesOfChains : Type 0 where
         terminating = false;
       }) (place 1 17)) (record { negated = false; terminating = false })
       (place 1 12)) (record { negated = false; terminating = false }) (place 1 9)) []
+  -- `f(1,)`
+  pub read_17 : IsExpression ((Name (codes "f"), 1) ∷ (Sign token.LeftParen, 2) ∷ (Integer (pos 1), 3) ∷
+      (Sign token.Comma, 4) ∷ (Sign token.RightParen, 5) ∷ []) 6 (node.call (function (codes "f") false 1)
+      (node.one_node (node.integer (pos 1) (place 1 3)) node.no_nodes) (place 1 1)) []
+  -- `f( )`
+  pub read_18 : IsExpression ((Name (codes "f"), 1) ∷ (Sign token.LeftParen, 2) ∷ (Sign token.RightParen, 4) ∷ []) 5
+      (node.call (function (codes "f") false 0) node.no_nodes (place 1 1)) []
   -- `f(`
   pub refused_1 : Refuses script ((Name (codes "f"), 1) ∷ (Sign token.LeftParen, 2) ∷ []) 3 (cause.MissingToken
       (codes ")")) 3
@@ -235,3 +242,33 @@ pub record LinesOfChains : Type 0 where
   pub refused_28 : Refuses (expression_by (record new_engine { depth = 1 })) ((Name (codes "a"), 1) ∷
       (Sign token.Period, 2) ∷ (Name (codes "f"), 3) ∷ (Sign token.LeftParen, 4) ∷ (Integer (pos 1), 5) ∷
       (Sign token.RightParen, 6) ∷ []) 7 cause.ExprTooDeep 2
+  -- `a.b.c`
+  pub refused_29 : Refuses (expression_by (record new_engine { depth = 2 })) ((Name (codes "a"), 1) ∷
+      (Sign token.Period, 2) ∷ (Name (codes "b"), 3) ∷ (Sign token.Period, 4) ∷ (Name (codes "c"), 5) ∷ []) 6
+      cause.ExprTooDeep 4
+  -- `a.call`
+  pub refused_30 : Refuses expression ((Name (codes "a"), 1) ∷ (Sign token.Period, 2) ∷ (Reserved (codes "call"), 3) ∷
+      []) 7 (cause.Reserved (codes "call")) 3
+  -- `a${b}c`
+  pub refused_31 : Refuses (expression_by (record new_engine { depth = 2 })) ((Interpolated (codes "a"), 1) ∷
+      (Sign token.LeftBrace, 4) ∷ (Name (codes "b"), 5) ∷ (Sign token.RightBrace, 6) ∷ (String (codes "c"), 7) ∷ []) 9
+      cause.ExprTooDeep 1
+  -- no token that begins an expression after `{`
+  pub refused_32 : Refuses (expression_by (record new_engine { depth = 3 })) ((Interpolated (codes "a"), 1) ∷
+      (Sign token.LeftBrace, 4) ∷ (Sign token.RightParen, 5) ∷ []) 6 cause.ExprTooDeep 5
+  -- a text and an error of the tokenizer
+  pub refused_33 : Refuses (expression_by (record new_engine { depth = 1 })) ((Interpolated (codes "a"), 1) ∷
+      (Faulty (UnexpectedInput (codes "~")), 4) ∷ []) 6 cause.ExprTooDeep 1
+  -- `f(1, g(2))`
+  pub refused_34 : Refuses (expression_by (record new_engine { depth = 4 })) ((Name (codes "f"), 1) ∷
+      (Sign token.LeftParen, 2) ∷ (Integer (pos 1), 3) ∷ (Sign token.Comma, 4) ∷ (Name (codes "g"), 6) ∷
+      (Sign token.LeftParen, 7) ∷ (Integer (pos 2), 8) ∷ (Sign token.RightParen, 9) ∷ (Sign token.RightParen, 10) ∷ [])
+      11 cause.ExprTooDeep 8
+  -- `a.f(1)`
+  pub refused_35 : Refuses (expression_by (record new_engine { depth = 3 })) ((Name (codes "a"), 1) ∷
+      (Sign token.Period, 2) ∷ (Name (codes "f"), 3) ∷ (Sign token.LeftParen, 4) ∷ (Integer (pos 1), 5) ∷
+      (Sign token.RightParen, 6) ∷ []) 7 cause.ExprTooDeep 5
+  -- `a[b][c]`
+  pub refused_36 : Refuses (expression_by (record new_engine { depth = 4 })) ((Name (codes "a"), 1) ∷
+      (Sign token.LeftBracket, 2) ∷ (Name (codes "b"), 3) ∷ (Sign token.RightBracket, 4) ∷ (Sign token.LeftBracket, 5) ∷
+      (Name (codes "c"), 6) ∷ (Sign token.RightBracket, 7) ∷ []) 8 cause.ExprTooDeep 6

@@ -219,3 +219,6 @@ pub record LinesOfClosures : Type 0 where
   -- `|x| x`
   pub refused_32 : Refuses (expression_by (record new_engine { depth = 3 })) ((Sign token.Pipe, 1) ∷
       (Name (codes "x"), 2) ∷ (Sign token.Pipe, 3) ∷ (Name (codes "x"), 5) ∷ []) 6 cause.ExprTooDeep 5
+  -- `|| || x`
+  pub refused_33 : Refuses (expression_by (record new_engine { functions = 1 })) ((Sign token.Or, 1) ∷
+      (Sign token.Or, 4) ∷ (Name (codes "x"), 7) ∷ []) 8 cause.TooManyFunctions 4

@@ -149,6 +149,16 @@ pub record LinesOfConstructs : Type 0 where
       (place 1 22)) (node.one_statement (node.assignment (Some (Sign token.PlusAssign)) (variable (codes "e") (Some 1)
       (place 1 27)) (node.integer (pos 2) (place 1 32)) (place 1 29)) node.no_statements)) (place 1 18) (place 1 34))
       (place 1 1)) node.no_statements) []
+  -- `if a { 1 } else if b { 2 }`
+  pub read_16 : IsScript ((Sign token.If, 1) ∷ (Name (codes "a"), 4) ∷ (Sign token.LeftBrace, 6) ∷
+      (Integer (pos 1), 8) ∷ (Sign token.RightBrace, 10) ∷ (Sign token.Else, 12) ∷ (Sign token.If, 17) ∷
+      (Name (codes "b"), 20) ∷ (Sign token.LeftBrace, 22) ∷ (Integer (pos 2), 24) ∷ (Sign token.RightBrace, 26) ∷ []) 27
+      (node.one_statement (node.if_statement (variable (codes "a") None (place 1 4)) (node.braces (node.one_statement
+      (node.expression (node.integer (pos 1) (place 1 8))) node.no_statements) (place 1 6) (place 1 10)) (node.braces
+      (node.one_statement (node.if_statement (variable (codes "b") None (place 1 20)) (node.braces (node.one_statement
+      (node.expression (node.integer (pos 2) (place 1 24))) node.no_statements) (place 1 22) (place 1 26)) (node.braces
+      node.no_statements nowhere nowhere) (place 1 17)) node.no_statements) (place 1 17) nowhere) (place 1 1))
+      node.no_statements) []
   -- `if )`
   pub refused_1 : Refuses script ((Sign token.If, 1) ∷ (Sign token.RightParen, 4) ∷ []) 5 (cause.BadInput
       (cause.UnexpectedInput (codes ")"))) 4
@@ -267,3 +277,7 @@ pub record LinesOfConstructs : Type 0 where
   -- `catch {}`
   pub refused_33 : Refuses (script_by (record new_engine { depth = 1 })) ((Sign token.Catch, 1) ∷
       (Sign token.LeftBrace, 7) ∷ (Sign token.RightBrace, 8) ∷ []) 9 cause.ExprTooDeep 1
+  -- `if a {} else if b {}`
+  pub refused_34 : Refuses (script_by (record new_engine { depth = 3 })) ((Sign token.If, 1) ∷ (Name (codes "a"), 4) ∷
+      (Sign token.LeftBrace, 6) ∷ (Sign token.RightBrace, 7) ∷ (Sign token.Else, 9) ∷ (Sign token.If, 14) ∷
+      (Name (codes "b"), 17) ∷ (Sign token.LeftBrace, 19) ∷ (Sign token.RightBrace, 20) ∷ []) 21 cause.ExprTooDeep 17

@@ -71,6 +71,11 @@ pub record LinesOfFunctions : Type 0 where
       (Sign token.Unit, 14) ∷ (Sign token.LeftBrace, 17) ∷ (Sign token.RightBrace, 18) ∷ []) 19 (node.no_statements)
       ((ended None (codes "f") false [] ((codes "/** a */") ∷ []) (node.braces node.no_statements (place 1 17)
       (place 1 18))) ∷ [])
+  -- `fn "int".f() {}`
+  pub read_10 : IsScript ((Sign token.Fn, 1) ∷ (String (codes "int"), 4) ∷ (Sign token.Period, 9) ∷
+      (Name (codes "f"), 10) ∷ (Sign token.Unit, 11) ∷ (Sign token.LeftBrace, 14) ∷ (Sign token.RightBrace, 15) ∷ []) 16
+      node.no_statements ((ended (Some (codes "i64")) (codes "f") false [] [] (node.braces node.no_statements
+      (place 1 14) (place 1 15))) ∷ [])
   -- `fn f() {}`
   pub refused_1 : Refuses expression ((Sign token.Fn, 1) ∷ (Name (codes "f"), 4) ∷ (Sign token.Unit, 5) ∷
       (Sign token.LeftBrace, 8) ∷ (Sign token.RightBrace, 9) ∷ []) 10 (cause.BadInput (cause.UnexpectedInput
@@ -188,3 +193,7 @@ pub record LinesOfFunctions : Type 0 where
   -- `fn f() /// a`
   pub refused_34 : Refuses script ((Sign token.Fn, 1) ∷ (Name (codes "f"), 4) ∷ (Sign token.Unit, 5) ∷
       (Comment (codes "/// a"), 8) ∷ []) 13 (cause.FnMissingBody (codes "f")) 8
+  -- `{ private fn f() {} }`
+  pub refused_35 : Refuses script ((Sign token.LeftBrace, 1) ∷ (Sign token.Private, 3) ∷ (Sign token.Fn, 11) ∷
+      (Name (codes "f"), 14) ∷ (Sign token.Unit, 15) ∷ (Sign token.LeftBrace, 18) ∷ (Sign token.RightBrace, 19) ∷
+      (Sign token.RightBrace, 21) ∷ []) 22 cause.WrongFnDefinition 3

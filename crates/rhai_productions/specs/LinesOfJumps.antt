@@ -122,6 +122,11 @@ pub record LinesOfJumps : Type 0 where
       (node.break_loop node.absent true (place 1 15)) node.no_statements) (place 1 13) (place 1 21)) (node.braces
       (node.one_statement (node.break_loop node.absent false (place 1 30)) node.no_statements) (place 1 28)
       (place 1 39)) (place 1 8)) node.no_statements) (place 1 6) (place 1 41)) (place 1 1)) node.no_statements) []
+  -- `while a { break }`
+  pub read_17 : IsScript ((Sign token.While, 1) ∷ (Name (codes "a"), 7) ∷ (Sign token.LeftBrace, 9) ∷
+      (Sign token.Break, 11) ∷ (Sign token.RightBrace, 17) ∷ []) 18 (node.one_statement (node.while_statement (variable
+      (codes "a") None (place 1 7)) (node.braces (node.one_statement (node.break_loop node.absent true (place 1 11))
+      node.no_statements) (place 1 9) (place 1 17)) (place 1 1)) node.no_statements) []
   -- `return`
   pub refused_1 : Refuses expression ((Sign token.Return, 1) ∷ []) 7 (cause.BadInput (cause.UnexpectedInput
       (codes "return"))) 1
@@ -220,3 +225,44 @@ pub record LinesOfJumps : Type 0 where
   -- after `break`
   pub refused_32 : Refuses (script_by (record new_engine { depth = 3 })) ((Sign token.Loop, 1) ∷
       (Sign token.LeftBrace, 6) ∷ (Sign token.Break, 8) ∷ (Faulty UnterminatedString, 14) ∷ []) 15 cause.ExprTooDeep 8
+  -- `break 1 +`
+  pub refused_33 : Refuses script ((Sign token.Break, 1) ∷ (Integer (pos 1), 7) ∷ (Sign token.Plus, 9) ∷ []) 10
+      cause.LoopBreak 1
+  -- `continue`
+  pub refused_34 : Refuses script ((Sign token.Continue, 1) ∷ []) 9 cause.LoopBreak 1
+  -- `{ break }`
+  pub refused_35 : Refuses script ((Sign token.LeftBrace, 1) ∷ (Sign token.Break, 3) ∷ (Sign token.RightBrace, 9) ∷ [])
+      10 cause.LoopBreak 3
+  -- `if a { break }`
+  pub refused_36 : Refuses script ((Sign token.If, 1) ∷ (Name (codes "a"), 4) ∷ (Sign token.LeftBrace, 6) ∷
+      (Sign token.Break, 8) ∷ (Sign token.RightBrace, 14) ∷ []) 15 cause.LoopBreak 8
+  -- `while ({ break }) {}`
+  pub refused_37 : Refuses script ((Sign token.While, 1) ∷ (Sign token.LeftParen, 7) ∷ (Sign token.LeftBrace, 8) ∷
+      (Sign token.Break, 10) ∷ (Sign token.RightBrace, 16) ∷ (Sign token.RightParen, 17) ∷ (Sign token.LeftBrace, 19) ∷
+      (Sign token.RightBrace, 20) ∷ []) 21 cause.LoopBreak 10
+  -- `do {} while ({ break })`
+  pub refused_38 : Refuses script ((Sign token.Do, 1) ∷ (Sign token.LeftBrace, 4) ∷ (Sign token.RightBrace, 5) ∷
+      (Sign token.While, 7) ∷ (Sign token.LeftParen, 13) ∷ (Sign token.LeftBrace, 14) ∷ (Sign token.Break, 16) ∷
+      (Sign token.RightBrace, 22) ∷ (Sign token.RightParen, 23) ∷ []) 24 cause.LoopBreak 16
+  -- `` `a${break}` ``
+  pub refused_39 : Refuses script ((Interpolated (codes "a"), 1) ∷ (Sign token.LeftBrace, 4) ∷ (Sign token.Break, 5) ∷
+      (Sign token.RightBrace, 10) ∷ (String [], 11) ∷ []) 12 cause.LoopBreak 5
+  -- `1 && a ?? break`
+  pub refused_40 : Refuses expression ((Integer (pos 1), 1) ∷ (Sign token.And, 3) ∷ (Name (codes "a"), 6) ∷
+      (Sign token.DoubleQuestion, 8) ∷ (Sign token.Break, 11) ∷ []) 16 cause.LoopBreak 11
+  -- `a ?? b ?? return 1`
+  pub refused_41 : Refuses (expression_by (record new_engine { depth = 3 })) ((Name (codes "a"), 1) ∷
+      (Sign token.DoubleQuestion, 3) ∷ (Name (codes "b"), 6) ∷ (Sign token.DoubleQuestion, 8) ∷
+      (Sign token.Return, 11) ∷ (Integer (pos 1), 18) ∷ []) 19 cause.ExprTooDeep 18
+  -- `return || 1`
+  pub refused_42 : Refuses (script_by (record new_engine { depth = 3 })) ((Sign token.Return, 1) ∷ (Sign token.Or, 8) ∷
+      (Integer (pos 1), 11) ∷ []) 12 cause.ExprTooDeep 11
+  -- `if ({ break }) {}`
+  pub refused_43 : Refuses script ((Sign token.If, 1) ∷ (Sign token.LeftParen, 4) ∷ (Sign token.LeftBrace, 5) ∷
+      (Sign token.Break, 7) ∷ (Sign token.RightBrace, 13) ∷ (Sign token.RightParen, 14) ∷ (Sign token.LeftBrace, 16) ∷
+      (Sign token.RightBrace, 17) ∷ []) 18 cause.LoopBreak 7
+  -- `let x = loop { break 1 } + { break };`
+  pub refused_44 : Refuses script ((Sign token.Let, 1) ∷ (Name (codes "x"), 5) ∷ (Sign token.Equals, 7) ∷
+      (Sign token.Loop, 9) ∷ (Sign token.LeftBrace, 14) ∷ (Sign token.Break, 16) ∷ (Integer (pos 1), 22) ∷
+      (Sign token.RightBrace, 24) ∷ (Sign token.Plus, 26) ∷ (Sign token.LeftBrace, 28) ∷ (Sign token.Break, 30) ∷
+      (Sign token.RightBrace, 36) ∷ (Sign token.SemiColon, 37) ∷ []) 38 cause.LoopBreak 30

@@ -222,3 +222,14 @@ pub record LinesOfLists : Type 0 where
   -- `(`
   pub refused_37 : Refuses (expression_by (record new_engine { depth = 1 })) ((Sign token.LeftParen, 1) ∷ []) 2
       cause.ExprTooDeep 1
+  -- `[#{a: 1}]`
+  pub refused_38 : Refuses (expression_by (record new_engine { depth = 6 })) ((Sign token.LeftBracket, 1) ∷
+      (Sign token.MapStart, 2) ∷ (Name (codes "a"), 4) ∷ (Sign token.Colon, 5) ∷ (Integer (pos 1), 7) ∷
+      (Sign token.RightBrace, 8) ∷ (Sign token.RightBracket, 9) ∷ []) 10 cause.ExprTooDeep 7
+  -- `#{a: [1]}`
+  pub refused_39 : Refuses (expression_by (record new_engine { depth = 6 })) ((Sign token.MapStart, 1) ∷
+      (Name (codes "a"), 3) ∷ (Sign token.Colon, 4) ∷ (Sign token.LeftBracket, 6) ∷ (Integer (pos 1), 7) ∷
+      (Sign token.RightBracket, 8) ∷ (Sign token.RightBrace, 9) ∷ []) 10 cause.ExprTooDeep 7
+  -- `[1`
+  pub refused_40 : Refuses (expression_by (record new_engine { depth = 2 })) ((Sign token.LeftBracket, 1) ∷
+      (Integer (pos 1), 2) ∷ []) 3 cause.ExprTooDeep 1

@@ -144,6 +144,24 @@ pub record LinesOfLoops : Type 0 where
       (Some 1) (place 1 23))) node.no_statements) (place 1 21) (place 1 25)) (place 1 10)) (node.one_statement
       (node.expression (variable (codes "x") (Some 1) (place 1 27))) node.no_statements)) (place 1 8) (place 1 29)))
       (node.one_statement (node.expression (variable (codes "x") (Some 1) (place 1 31))) node.no_statements))) []
+  -- `for (a, b) in a { a = b }`
+  pub read_17 : IsScript ((Sign token.For, 1) ∷ (Sign token.LeftParen, 5) ∷ (Name (codes "a"), 6) ∷
+      (Sign token.Comma, 7) ∷ (Name (codes "b"), 9) ∷ (Sign token.RightParen, 10) ∷ (Sign token.In, 12) ∷
+      (Name (codes "a"), 15) ∷ (Sign token.LeftBrace, 17) ∷ (Name (codes "a"), 19) ∷ (Sign token.Equals, 21) ∷
+      (Name (codes "b"), 23) ∷ (Sign token.RightBrace, 25) ∷ []) 26 (node.one_statement (node.for_statement (codes "a")
+      (Some (codes "b")) (variable (codes "a") None (place 1 15)) (node.braces (node.one_statement (node.assignment None
+      (variable (codes "a") (Some 1) (place 1 19)) (variable (codes "b") (Some 2) (place 1 23)) (place 1 21))
+      node.no_statements) (place 1 17) (place 1 25)) (place 1 1)) node.no_statements) []
+  -- `for x in y { f(x); x = 1; }`
+  pub read_18 : IsScript ((Sign token.For, 1) ∷ (Name (codes "x"), 5) ∷ (Sign token.In, 7) ∷ (Name (codes "y"), 10) ∷
+      (Sign token.LeftBrace, 12) ∷ (Name (codes "f"), 14) ∷ (Sign token.LeftParen, 15) ∷ (Name (codes "x"), 16) ∷
+      (Sign token.RightParen, 17) ∷ (Sign token.SemiColon, 18) ∷ (Name (codes "x"), 20) ∷ (Sign token.Equals, 22) ∷
+      (Integer (pos 1), 24) ∷ (Sign token.SemiColon, 25) ∷ (Sign token.RightBrace, 27) ∷ []) 28 (node.one_statement
+      (node.for_statement (codes "x") None (variable (codes "y") None (place 1 10)) (node.braces (node.one_statement
+      (node.expression (node.call (function (codes "f") false 1) (node.one_node (variable (codes "x") (Some 1)
+      (place 1 16)) node.no_nodes) (place 1 14))) (node.one_statement (node.assignment None (variable (codes "x") (Some
+      1) (place 1 20)) (node.integer (pos 1) (place 1 24)) (place 1 22)) node.no_statements)) (place 1 12) (place 1 27))
+      (place 1 1)) node.no_statements) []
   -- `while )`
   pub refused_1 : Refuses script ((Sign token.While, 1) ∷ (Sign token.RightParen, 7) ∷ []) 8 (cause.BadInput
       (cause.UnexpectedInput (codes ")"))) 7
@@ -281,3 +299,6 @@ pub record LinesOfLoops : Type 0 where
   pub refused_40 : Refuses (script_by (record new_engine { options = 159; depth = 1 })) ((Sign token.For, 1) ∷
       (Name (codes "x"), 5) ∷ (Sign token.In, 7) ∷ (Name (codes "y"), 10) ∷ (Sign token.LeftBrace, 12) ∷
       (Sign token.RightBrace, 13) ∷ []) 14 cause.ExprTooDeep 1
+  -- `loop { a }`
+  pub refused_41 : Refuses (script_by (record new_engine { depth = 2 })) ((Sign token.Loop, 1) ∷
+      (Sign token.LeftBrace, 6) ∷ (Name (codes "a"), 8) ∷ (Sign token.RightBrace, 10) ∷ []) 11 cause.ExprTooDeep 1

@@ -94,6 +94,32 @@ pub record LinesOfModules : Type 0 where
       (node.block_value (node.braces (node.one_statement (node.expression (node.integer (pos 2) (place 1 39)))
       node.no_statements) (place 1 39) nowhere)) node.no_arms)) (node.one_case (node.integer (pos 1) (place 1 12)) (0
       ∷ []) node.no_cases) [] (Some 1) (place 1 1)) node.no_statements) []
+  -- `a::b::c`
+  pub read_9 : IsExpression ((Name (codes "a"), 1) ∷ (Sign token.DoubleColon, 2) ∷ (Name (codes "b"), 4) ∷
+      (Sign token.DoubleColon, 5) ∷ (Name (codes "c"), 7) ∷ []) 8 (node.variable (record {
+        number = None;
+        name = codes "c";
+        path = (codes "a", place 1 1) ∷ (codes "b", place 1 4) ∷ [];
+        module_index = None;
+      }) (place 1 7)) []
+  -- `import "a" as m; m::x`
+  pub read_10 : IsScript ((Sign token.Import, 1) ∷ (String (codes "a"), 8) ∷ (Sign token.As, 12) ∷
+      (Name (codes "m"), 15) ∷ (Sign token.SemiColon, 16) ∷ (Name (codes "m"), 18) ∷ (Sign token.DoubleColon, 19) ∷
+      (Name (codes "x"), 21) ∷ []) 22 (node.one_statement (node.import_statement (node.string (codes "a") (place 1 8))
+      (codes "m") (place 1 1)) (node.one_statement (node.expression (node.variable (record {
+        number = None;
+        name = codes "x";
+        path = (codes "m", place 1 18) ∷ [];
+        module_index = Some 1;
+      }) (place 1 21))) node.no_statements)) []
+  -- `let x = 1; export x; let x = 2;`
+  pub read_11 : IsScript ((Sign token.Let, 1) ∷ (Name (codes "x"), 5) ∷ (Sign token.Equals, 7) ∷ (Integer (pos 1), 9) ∷
+      (Sign token.SemiColon, 10) ∷ (Sign token.Export, 12) ∷ (Name (codes "x"), 19) ∷ (Sign token.SemiColon, 20) ∷
+      (Sign token.Let, 22) ∷ (Name (codes "x"), 26) ∷ (Sign token.Equals, 28) ∷ (Integer (pos 2), 30) ∷
+      (Sign token.SemiColon, 31) ∷ []) 32 (node.one_statement (node.var_statement (codes "x") (node.integer (pos 1)
+      (place 1 9)) None false false (place 1 1)) (node.one_statement (node.export_statement (codes "x") [] (place 1 12))
+      (node.one_statement (node.var_statement (codes "x") (node.integer (pos 2) (place 1 30)) None false false
+      (place 1 22)) node.no_statements))) []
   -- `import "a"`
   pub refused_1 : Refuses expression ((Sign token.Import, 1) ∷ (String (codes "a"), 8) ∷ []) 11 (cause.BadInput
       (cause.UnexpectedInput (codes "import"))) 1
@@ -188,3 +214,6 @@ pub record LinesOfModules : Type 0 where
   -- `import (a)`
   pub refused_28 : Refuses (script_by (record new_engine { depth = 3 })) ((Sign token.Import, 1) ∷
       (Sign token.LeftParen, 8) ∷ (Name (codes "a"), 9) ∷ (Sign token.RightParen, 10) ∷ []) 11 cause.ExprTooDeep 8
+  -- `a.b::c`
+  pub refused_29 : Refuses expression ((Name (codes "a"), 1) ∷ (Sign token.Period, 2) ∷ (Name (codes "b"), 3) ∷
+      (Sign token.DoubleColon, 4) ∷ (Name (codes "c"), 6) ∷ []) 7 (cause.BadInput (cause.ImproperSymbol (codes "::"))) 4

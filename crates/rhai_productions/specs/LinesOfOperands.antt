@@ -90,6 +90,12 @@ pub record LinesOfOperands : Type 0 where
   pub read_14 : IsExpression ((Sign token.LeftParen, 1) ∷ (Name (codes "g"), 2) ∷ (Sign token.RightParen, 3) ∷
       (Sign token.LeftParen, 4) ∷ (Integer (pos 1), 5) ∷ (Sign token.RightParen, 6) ∷ []) 7 (node.call (function
       (codes "g") false 1) (node.one_node (node.integer (pos 1) (place 1 5)) node.no_nodes) (place 1 2)) []
+  -- `2 ** 3 ** 4`
+  pub read_15 : IsExpression ((Integer (pos 2), 1) ∷ (Sign token.PowerOf, 3) ∷ (Integer (pos 3), 6) ∷
+      (Sign token.PowerOf, 8) ∷ (Integer (pos 4), 11) ∷ []) 12 (node.call (operator_called (Sign token.PowerOf))
+      (node.one_node (node.integer (pos 2) (place 1 1)) (node.one_node (node.call (operator_called (Sign token.PowerOf))
+      (node.one_node (node.integer (pos 3) (place 1 6)) (node.one_node (node.integer (pos 4) (place 1 11))
+      node.no_nodes)) (place 1 8)) node.no_nodes)) (place 1 3)) []
   -- `1 2`
   pub refused_1 : Refuses expression ((Integer (pos 1), 1) ∷ (Integer (pos 2), 3) ∷ []) 4 (cause.BadInput
       (cause.UnexpectedInput (codes "2"))) 3
@@ -276,3 +282,23 @@ pub record LinesOfOperands : Type 0 where
   pub refused_54 : Refuses (expression_by (record new_engine { options = 255; for_expressions = 243; depth = 2 }))
       ((Name (codes "n"), 1) ∷ (Sign token.DoubleColon, 2) ∷ (Name (codes "x"), 4) ∷ (Sign token.LeftBracket, 5) ∷
       (Integer (pos 0), 6) ∷ (Sign token.RightBracket, 7) ∷ []) 8 cause.ExprTooDeep 5
+  -- `m::x + 1`
+  pub refused_55 : Refuses (expression_by (record new_engine { depth = 1 })) ((Name (codes "m"), 1) ∷
+      (Sign token.DoubleColon, 2) ∷ (Name (codes "x"), 4) ∷ (Sign token.Plus, 6) ∷ (Integer (pos 1), 8) ∷ []) 9
+      cause.ExprTooDeep 4
+  -- `1 + 2 + 3`
+  pub refused_56 : Refuses (expression_by (record new_engine { depth = 2 })) ((Integer (pos 1), 1) ∷
+      (Sign token.Plus, 3) ∷ (Integer (pos 2), 5) ∷ (Sign token.Plus, 7) ∷ (Integer (pos 3), 9) ∷ []) 10
+      cause.ExprTooDeep 3
+  -- `1 + 2 === 3`
+  pub refused_57 : Refuses (expression_by (record new_engine { depth = 1 })) ((Integer (pos 1), 1) ∷
+      (Sign token.Plus, 3) ∷ (Integer (pos 2), 5) ∷ (Reserved (codes "==="), 7) ∷ (Integer (pos 3), 11) ∷ []) 12
+      (cause.UnknownOperator (codes "===")) 7
+  -- `!|| 1`
+  pub refused_58 : Refuses (expression_by (record new_engine { depth = 3 })) ((Sign token.Bang, 1) ∷
+      (Sign token.Or, 2) ∷ (Integer (pos 1), 5) ∷ []) 6 cause.ExprTooDeep 5
+  -- `1 + 2 * 3 ** 4 - 5`
+  pub refused_59 : Refuses (expression_by (record new_engine { depth = 3 })) ((Integer (pos 1), 1) ∷
+      (Sign token.Plus, 3) ∷ (Integer (pos 2), 5) ∷ (Sign token.Multiply, 7) ∷ (Integer (pos 3), 9) ∷
+      (Sign token.PowerOf, 11) ∷ (Integer (pos 4), 14) ∷ (Sign token.Minus, 16) ∷ (Integer (pos 5), 18) ∷ []) 19
+      cause.ExprTooDeep 9

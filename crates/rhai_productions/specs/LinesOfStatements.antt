@@ -144,6 +144,16 @@ pub record LinesOfStatements : Type 0 where
       false (place 1 21)) (node.one_statement (node.expression (variable (codes "x") (Some 2) (place 1 28)))
       node.no_statements))) (place 1 12) (place 1 30))) (place 1 10)) (node.one_statement (node.expression (variable
       (codes "x") (Some 1) (place 1 33))) node.no_statements))) []
+  -- `let x; try {} catch (x) {} let x; x`
+  pub read_17 : IsScript ((Sign token.Let, 1) ∷ (Name (codes "x"), 5) ∷ (Sign token.SemiColon, 6) ∷
+      (Sign token.Try, 8) ∷ (Sign token.LeftBrace, 12) ∷ (Sign token.RightBrace, 13) ∷ (Sign token.Catch, 15) ∷
+      (Sign token.LeftParen, 21) ∷ (Name (codes "x"), 22) ∷ (Sign token.RightParen, 23) ∷ (Sign token.LeftBrace, 25) ∷
+      (Sign token.RightBrace, 26) ∷ (Sign token.Let, 28) ∷ (Name (codes "x"), 32) ∷ (Sign token.SemiColon, 33) ∷
+      (Name (codes "x"), 35) ∷ []) 36 (node.one_statement (node.var_statement (codes "x") (node.unit nowhere) None false
+      false (place 1 1)) (node.one_statement (node.try_catch (node.braces node.no_statements (place 1 12) (place 1 13))
+      (variable (codes "x") None (place 1 22)) (node.braces node.no_statements (place 1 25) (place 1 26)) (place 1 8))
+      (node.one_statement (node.var_statement (codes "x") (node.unit nowhere) (Some 1) false false (place 1 28))
+      (node.one_statement (node.expression (variable (codes "x") (Some 1) (place 1 35))) node.no_statements)))) []
   -- no token
   pub refused_1 : Refuses expression ([]) 1 cause.UnexpectedEOF 1
   -- `;`

@@ -7,7 +7,7 @@ use Rattle.rhai_lower.specs.declared.token.Token.TheVariants as token
 use Rattle.rhai_grammar.specs.Causes as cause
 use Rattle.rhai_grammar.specs.Operators.{operator_called}
 use Rattle.rhai_productions.specs.Lines.{IsExpression, IsScript, Refuses, expression_by, new_engine, script, script_by}
-use Rattle.rhai_productions.specs.Lines.{variable}
+use Rattle.rhai_productions.specs.Lines.{expression, variable}
 
 -- The column of an error counts from 1, as those of the tokens and of the end mark.
 pub record LinesOfSwitches : Type 0 where
@@ -80,6 +80,29 @@ pub record LinesOfSwitches : Type 0 where
       (node.integer (pos 3) (place 1 34)) (place 1 31)) node.no_statements) (place 1 31) nowhere)) node.no_arms))
       (node.one_case (node.integer (pos 1) (place 1 12)) (0 ∷ []) (node.one_case (node.integer (pos 2) (place 1 24))
       (1 ∷ []) node.no_cases)) [] None (place 1 1)) node.no_statements) []
+  -- `switch a { 1 if b => c }`
+  pub read_9 : IsScript ((Sign token.Switch, 1) ∷ (Name (codes "a"), 8) ∷ (Sign token.LeftBrace, 10) ∷
+      (Integer (pos 1), 12) ∷ (Sign token.If, 14) ∷ (Name (codes "b"), 17) ∷ (Sign token.DoubleArrow, 19) ∷
+      (Name (codes "c"), 22) ∷ (Sign token.RightBrace, 24) ∷ []) 25 (node.one_statement (node.switch_statement (variable
+      (codes "a") None (place 1 8)) (node.one_arm (variable (codes "b") None (place 1 17)) (node.block_value
+      (node.braces (node.one_statement (node.expression (variable (codes "c") None (place 1 22))) node.no_statements)
+      (place 1 22) nowhere)) node.no_arms) (node.one_case (node.integer (pos 1) (place 1 12)) (0 ∷ []) node.no_cases) []
+      None (place 1 1)) node.no_statements) []
+  -- `let x; switch 1 { 1 => let x = x, 2 => x } x`
+  pub read_10 : IsScript ((Sign token.Let, 1) ∷ (Name (codes "x"), 5) ∷ (Sign token.SemiColon, 6) ∷
+      (Sign token.Switch, 8) ∷ (Integer (pos 1), 15) ∷ (Sign token.LeftBrace, 17) ∷ (Integer (pos 1), 19) ∷
+      (Sign token.DoubleArrow, 21) ∷ (Sign token.Let, 24) ∷ (Name (codes "x"), 28) ∷ (Sign token.Equals, 30) ∷
+      (Name (codes "x"), 32) ∷ (Sign token.Comma, 33) ∷ (Integer (pos 2), 35) ∷ (Sign token.DoubleArrow, 37) ∷
+      (Name (codes "x"), 40) ∷ (Sign token.RightBrace, 42) ∷ (Name (codes "x"), 44) ∷ []) 45 (node.one_statement
+      (node.var_statement (codes "x") (node.unit nowhere) None false false (place 1 1)) (node.one_statement
+      (node.switch_statement (node.integer (pos 1) (place 1 15)) (node.one_arm (node.boolean true nowhere)
+      (node.block_value (node.braces (node.one_statement (node.var_statement (codes "x") (variable (codes "x") (Some 1)
+      (place 1 32)) None false false (place 1 24)) node.no_statements) (place 1 24) nowhere)) (node.one_arm
+      (node.boolean true nowhere) (node.block_value (node.braces (node.one_statement (node.expression (variable
+      (codes "x") (Some 1) (place 1 40))) node.no_statements) (place 1 40) nowhere)) node.no_arms)) (node.one_case
+      (node.integer (pos 1) (place 1 19)) (0 ∷ []) (node.one_case (node.integer (pos 2) (place 1 35)) (1 ∷ [])
+      node.no_cases)) [] None (place 1 8)) (node.one_statement (node.expression (variable (codes "x") (Some 1)
+      (place 1 44))) node.no_statements))) []
   -- `switch ) {}`
   pub refused_1 : Refuses script ((Sign token.Switch, 1) ∷ (Sign token.RightParen, 8) ∷ (Sign token.LeftBrace, 10) ∷
       (Sign token.RightBrace, 11) ∷ []) 12 (cause.BadInput (cause.UnexpectedInput (codes ")"))) 8
@@ -185,3 +208,22 @@ pub record LinesOfSwitches : Type 0 where
       (Sign token.LeftParen, 17) ∷ (Name (codes "b"), 18) ∷ (Sign token.RightParen, 19) ∷
       (Sign token.DoubleArrow, 21) ∷ (Name (codes "c"), 24) ∷ (Sign token.RightBrace, 26) ∷ []) 27 cause.ExprTooDeep
       17
+  -- tested after the arm: `switch a { b => 1 ) }`
+  pub refused_27 : Refuses script ((Sign token.Switch, 1) ∷ (Name (codes "a"), 8) ∷ (Sign token.LeftBrace, 10) ∷
+      (Name (codes "b"), 12) ∷ (Sign token.DoubleArrow, 14) ∷ (Integer (pos 1), 17) ∷ (Sign token.RightParen, 19) ∷
+      (Sign token.RightBrace, 21) ∷ []) 22 (cause.ExprExpected (codes "a literal")) 12
+  -- `switch 1 { _ => 2 3 => 4 }`
+  pub refused_28 : Refuses script ((Sign token.Switch, 1) ∷ (Integer (pos 1), 8) ∷ (Sign token.LeftBrace, 10) ∷
+      (Sign token.Underscore, 12) ∷ (Sign token.DoubleArrow, 14) ∷ (Integer (pos 2), 17) ∷ (Integer (pos 3), 19) ∷
+      (Sign token.DoubleArrow, 21) ∷ (Integer (pos 4), 24) ∷ (Sign token.RightBrace, 26) ∷ []) 27 (cause.MissingToken
+      (codes ",")) 19
+  -- `switch 1 { 1 => ; 2 => 3 }`
+  pub refused_29 : Refuses script ((Sign token.Switch, 1) ∷ (Integer (pos 1), 8) ∷ (Sign token.LeftBrace, 10) ∷
+      (Integer (pos 1), 12) ∷ (Sign token.DoubleArrow, 14) ∷ (Sign token.SemiColon, 17) ∷ (Integer (pos 2), 19) ∷
+      (Sign token.DoubleArrow, 21) ∷ (Integer (pos 3), 24) ∷ (Sign token.RightBrace, 26) ∷ []) 27 (cause.MissingToken
+      (codes ",")) 19
+  -- `switch 1 { 1 => 2 3 => 4 }`
+  pub refused_30 : Refuses expression ((Sign token.Switch, 1) ∷ (Integer (pos 1), 8) ∷ (Sign token.LeftBrace, 10) ∷
+      (Integer (pos 1), 12) ∷ (Sign token.DoubleArrow, 14) ∷ (Integer (pos 2), 17) ∷ (Integer (pos 3), 19) ∷
+      (Sign token.DoubleArrow, 21) ∷ (Integer (pos 4), 24) ∷ (Sign token.RightBrace, 26) ∷ []) 27 (cause.MissingToken
+      (codes ",")) 19
