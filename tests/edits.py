@@ -32,6 +32,8 @@ EDITS = ROOT / "tests/edits"
 TABLE = EDITS / "refused.tsv"
 USE = re.compile(r"ghost use Rattle\.(\w+)\.specs\.([\w.]+?)\.\{([^}]*)\}")
 DEFINITION = re.compile(r"(?:(?:unfoldable|abbrev|record|data|pub) )*([^\s:({]+)")
+ROWS = re.compile(r"LinesOf|RowsOf|Worked|\w+RowLemmas$")
+LAWS = ("Beginnings", "Chains", "Heights", "Numbers", "Orders", "Outside", "Positions", "Shapes", "Tidies", "Uses")
 
 
 def run(*words, folder=ROOT):
@@ -124,6 +126,18 @@ def copy_for(crate, folder):
         run("cp", "-a", str(ROOT / "out"), str(folder / "out"))
 
 
+def rows_or_laws(notes):
+    """Answers which worked rows and which tables of laws these notes are about, or nothing."""
+    found = []
+    for note in notes:
+        named = re.match(r"(?:note: )?(?:\./)?proofs/([\w/+-]+)\.antt:\S+ error: ", note)
+        if named and " depends on " not in note and " depend on " not in note:
+            name = named.group(1)
+            found += [f"the rows {name}"] if ROWS.match(name) else []
+            found += [f"the law of {law.lower()}, proofs/{name}" for law in LAWS if name.startswith(law)]
+    return "; ".join(dict.fromkeys(found))
+
+
 def answer(printed):
     """Answers whether the prover refused, and what it did not prove."""
     lines = printed.splitlines()
@@ -137,7 +151,8 @@ def answer(printed):
     note = (code or owed or notes or [""])[0]
     clause = re.search(r"\(`([^`]*)`\)|`([^`]*)` of proofs", note)
     where = (clause.group(1) or clause.group(2)) if clause else note[:100].replace("\t", " ")
-    return last.startswith("logic=not-proved"), where if code or owed else f"a proof by hand: {where}"
+    by_hand = rows_or_laws(notes) or f"a proof by hand: {where}"
+    return last.startswith("logic=not-proved"), by_hand if not code and (rows_or_laws(notes) or not owed) else where
 
 
 def applied(edits, home):
