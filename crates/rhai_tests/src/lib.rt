@@ -4,8 +4,6 @@
 #[cfg(test)]
 mod allocation;
 #[cfg(test)]
-mod base_allocation;
-#[cfg(test)]
 mod caller_settings;
 #[cfg(test)]
 mod fn_names;
@@ -33,9 +31,5 @@ mod readme;
 mod script;
 #[cfg(test)]
 mod states;
-#[cfg(test)]
-mod text_allocation;
-#[cfg(test)]
-mod text_mode;
 #[cfg(test)]
 mod texts;
