@@ -213,20 +213,26 @@ def groups(edits):
 
 
 def refusals(printed, file, name):
-    """Answers what was printed of a function that is not proved."""
-    module = "::".join(pathlib.PurePath(file).with_suffix("").parts[1:]).removesuffix("lib").removesuffix("::mod")
-    head = re.compile(rf"^fn \w+::{module}(::[\w<>]+)*::\+?{name}: (not proved|no proof)(.*)$", re.MULTILINE)
-    return [it.group(2) + it.group(3) for it in head.finditer(printed)]
+    """Answers what was not proved of a function itself, and not of one that it calls."""
+    folders = [it for it in pathlib.PurePath(file).with_suffix("").parts[1:] if it != "lib"]
+    path = "".join(f"::{it}" for it in folders)
+    said = re.findall(rf"^fn \w+{path}(?:::[\w<>]+)*::{name}: (?:not proved|no proof)(.*)$", printed, re.MULTILINE)
+    error = rf"^\./proofs/{'/'.join(folders)}/(?:\w+/)*{name}/\w+\.antt:\S+ error: `([^`]*)`"
+    by_hand = [f"a proof by hand: {clause}" for clause in re.findall(error, printed, re.MULTILINE)]
+    own = [why for why in said if not why.startswith(": it calls ")]
+    return [(re.findall(r"did not prove `([^`]*)`", why) or by_hand or ["not proved"])[0] for why in own]
 
 
 def tried_together(edits, home):
     """Tries edits of different functions in one check of a copy. Yields each with the same as `tried`; the seconds are
-    those of the check, shared."""
+    those of the check, shared. What is not found refused so, as a function in a cycle, is tried alone."""
     printed, seconds = check_of(edits, home)
-    ended = any(line.startswith("logic=not-proved") for line in printed.splitlines())
     for edit in edits:
         said = [why for function in functions_of(edit) for why in refusals(printed, *function)]
-        yield edit, bool(said) if ended else None, seconds / len(edits), (said or [""])[0][:200]
+        if said and "\nlogic=not-proved" in printed:
+            yield edit, True, seconds / len(edits), said[0][:200]
+        else:
+            yield edit, *tried(edit, home)
 
 
 def keep(edit, seconds, why):
