@@ -3,13 +3,13 @@
 //! table as a file. Without an input the tests do nothing.
 
 use crate::optimizing::printed;
+use rhai_formats::{Escaped, ListError, Refused, TokenList, decimal, read_lines, read_list};
 use rhai_names::names::FnNames;
-use rhai_names::script::names_of_script;
 use rhai_parser::{
     AST, Engine, FnLib, LangOptions, OptimizationLevel, ParseResult, ParseState, Token,
     TokenStream, TokenizerControl,
 };
-use rhai_run::{Escaped, ListError, Refused, TokenList, decimal, read_lines, read_list};
+use rhai_script_names::names_of_script;
 use std::alloc::{AllocError, Global};
 use std::process::Abort;
 use std::test::Fail;

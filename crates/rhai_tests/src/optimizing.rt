@@ -3,10 +3,10 @@
 
 use crate::libraries::{Functions, holds_ended};
 use crate::script::{printed_refusal, stream_of_line, tokens_taken};
+use rhai_formats::accepted;
 use rhai_parser::{
     AST, Engine, FnLib, OptimizationLevel, ParseResult, ParseState, TokenizerControl,
 };
-use rhai_run::accepted;
 use std::alloc::{AllocError, Global};
 use std::process::Abort;
 use std::test::Fail;

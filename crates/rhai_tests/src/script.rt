@@ -1,12 +1,12 @@
 //! Scripts as the tests write them: tokens in one line, with one blank between two. Each stands at its column of line
 //! 1, and the end mark at no position.
 
+use rhai_formats::Refused;
 use rhai_parser::{
     AST, Engine, Entry, FnLib, LangOptions, OptimizationLevel, ParseError, ParseErrorType,
     ParseResult, ParseSettingFlags, ParseSettings, ParseState, Position, Scope, Token, TokenStream,
     TokenizerControl, nest_peak,
 };
-use rhai_run::Refused;
 use std::alloc::{AllocError, Global};
 use std::process::Abort;
 use std::rc::RcStr;

@@ -1,7 +1,7 @@
--- What both of these functions lend, where less is left to do than at their own call.
+-- What these functions lend, where less is left to do than at their own call.
 use Rattle.std.proofs.Common.{ℕ, ◌≡◌, ◌<◌, ◌∙◌, ap, arith}
 use Rattle.rhai_reading.specs.Running.{need}
-use Rattle.rhai_parser.specs.Readers.{expression, statement}
+use Rattle.rhai_readers.specs.Readers.{construct, expression, inside, statement}
 use Rattle.rhai_parser.proofs.lending.+parser.Goals as goal
 
 -- A need that falls below another is below what that other is measured by.
@@ -14,6 +14,8 @@ parse_chain-parse_chain-read-requires t c =
       lent = λ m below. (
         λ engine shared frame settings is. ((falls is below same, tt), λ result after told. told.1),
         λ engine shared frame settings is. ((falls is below same, tt), λ result after after_frame told. told.1),
+        λ engine shared frame settings kind is. ((falls is below same, tt), λ result after told. told.1),
+        λ engine shared frame settings is. ((falls is below same, tt), λ result after told. told.1),
       );
     }
 
@@ -23,5 +25,29 @@ parse_stmt-parse_stmt-read-requires t c =
       lent = λ m below. (
         λ engine shared frame settings is. ((falls is below same, tt), λ result after told. told.1),
         λ engine shared frame settings is. ((falls is below same, tt), λ result after after_frame told. told.1),
+        λ engine shared frame settings kind is. ((falls is below same, tt), λ result after told. told.1),
+        λ engine shared frame settings is. ((falls is below same, tt), λ result after told. told.1),
+      );
+    }
+
+pub parse_construct-parse_construct-read-requires : goal.parse_construct-parse_construct-read-requires
+parse_construct-parse_construct-read-requires t c =
+    let same = ap (need (construct c.args.kind c.args.engine.now c.args.frame.now c.args.settings)) c.enter.ensures.enters ∙ c.decreases in record {
+      lent = λ m below. (
+        λ engine shared frame settings is. ((falls is below same, tt), λ result after told. told.1),
+        λ engine shared frame settings is. ((falls is below same, tt), λ result after after_frame told. told.1),
+        λ engine shared frame settings kind is. ((falls is below same, tt), λ result after told. told.1),
+        λ engine shared frame settings is. ((falls is below same, tt), λ result after told. told.1),
+      );
+    }
+
+pub parse_block_inside-parse_block_inside-read-requires : goal.parse_block_inside-parse_block_inside-read-requires
+parse_block_inside-parse_block_inside-read-requires t c =
+    let same = ap (need (inside c.args.engine.now c.args.frame.now c.args.settings)) c.enter.ensures.enters ∙ c.decreases in record {
+      lent = λ m below. (
+        λ engine shared frame settings is. ((falls is below same, tt), λ result after told. told.1),
+        λ engine shared frame settings is. ((falls is below same, tt), λ result after after_frame told. told.1),
+        λ engine shared frame settings kind is. ((falls is below same, tt), λ result after told. told.1),
+        λ engine shared frame settings is. ((falls is below same, tt), λ result after told. told.1),
       );
     }
