@@ -2,6 +2,7 @@
 //! them.
 #![tactic(auto)]
 
+pub mod answer;
 pub mod escape;
 pub mod lines;
 pub mod list;
@@ -11,6 +12,7 @@ pub mod print;
 pub mod refused;
 mod symbol;
 
+pub use answer::{answered, refusal};
 pub use escape::Escaped;
 pub use lines::read_lines;
 pub use list::{ListError, TokenList, read_list};

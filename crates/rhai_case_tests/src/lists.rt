@@ -2,8 +2,9 @@
 //! give one on standard input, from the table of cases, and compare what is printed. tests/quick.py gives the whole
 //! table as a file. Without an input the tests do nothing.
 
-use crate::optimizing::printed;
-use rhai_formats::{Escaped, ListError, Refused, TokenList, decimal, read_lines, read_list};
+use rhai_formats::{
+    Escaped, ListError, Refused, TokenList, answered, decimal, read_lines, read_list,
+};
 use rhai_names::names::FnNames;
 use rhai_parser::{
     AST, Engine, FnLib, LangOptions, OptimizationLevel, ParseResult, ParseState, Token,
@@ -208,7 +209,7 @@ fn a_script_at_a_level(rt: HostRuntime) -> Result<(), Fail> {
         return Ok(());
     };
     let answer = parse(rt.alloc(), &mut given);
-    println!(rt; "{}", printed(rt.alloc(), answer)?)?;
+    println!(rt; "{}", answered(rt.alloc(), answer)?)?;
     Ok(())
 }
 
@@ -253,7 +254,7 @@ fn check_printed(
     answer: ParseResult<AST>,
     wanted: &str,
 ) -> Result<(), AllocError> {
-    let text = match printed(alloc, answer) {
+    let text = match answered(alloc, answer) {
         Ok(text) => text,
         Err(AllocError) => String::from_str(alloc, "refused E36 none OutOfMemory")?,
     };

@@ -1,9 +1,9 @@
 //! Texts of scripts: what a host goes on with, and when a prompt asks for more. Others come from outside of the crate:
 //! tests/compile.py gives them on standard input, made of the table of cases. Without an input that test does nothing.
 
+use crate::answers::check;
 use crate::lists::{Kind, read_words};
-use crate::optimizing::printed;
-use crate::script::{check, printed_refusal};
+use rhai_formats::{answered, refusal};
 use rhai_parser::{AST, Engine, FnLib, LangOptions, ParseResult, Scope};
 use rhai_script::{
     GlobalLevel, Limits, Refused, compile, compile_expression, compile_global_level,
@@ -55,7 +55,7 @@ fn check_refused(
     match read_alone(alloc, engine, text) {
         Ok(_) => assert!(rt; text.is_empty(), "{text} is accepted"),
         Err(refused) => {
-            let error = printed_refusal(alloc, &refused.error)?;
+            let error = refusal(alloc, &refused.error)?;
             assert!(rt;
                 error.as_str() == wanted,
                 "{text}: {error} in place of {wanted}"
@@ -152,7 +152,7 @@ fn read_text(alloc: Global, input: &str) -> Result<Option<String>, AllocError> {
         Kind::Script => read_script(alloc, &engine, text),
         Kind::Expression => compile_expression(alloc, &engine, text, DOCUMENTED),
     };
-    let (answer, by_host) = (printed(alloc, answer)?, printed(alloc, by_host)?);
+    let (answer, by_host) = (answered(alloc, answer)?, answered(alloc, by_host)?);
     if answer.as_str() == by_host.as_str() {
         Ok(Some(answer))
     } else {
