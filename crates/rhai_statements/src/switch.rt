@@ -13,17 +13,17 @@ ghost use Rattle.rhai_readers.specs.Heights.{Stays};
 ghost use Rattle.rhai_readers.specs.Readers.{construct};
 ghost use Rattle.rhai_readers.specs.Readers.{default_arm, state_of};
 ghost use Rattle.rhai_statements.specs.Switches.{CaseFrame, action_view, arm_view, cases_view};
-ghost use Rattle.rhai_trees.specs.Arms.{arms_view};
+ghost use Rattle.rhai_cases.specs.Arms.{arms_view};
 
 use crate::reader::Reader;
 use crate::switch::arms::{Action, Arm, as_case, end_arm, end_default, end_statement_action};
 use rhai_base::{Frame, ParseSettingFlags, ParseSettings};
+use rhai_cases::{Arms, make_switch, new_arms, no_guard, push_arm, push_default};
 use rhai_grammar::{DueToken, ParseResult};
 use rhai_leaves::arms::{NextArm, action_due, default_unguarded, next_arm};
 use rhai_leaves::due::{match_token, pass_token};
 use rhai_lower::{Expr, Position, Stmt};
 use rhai_readers::{LentReaders, Shared, nested};
-use rhai_trees::{Arms, make_switch, new_arms, no_guard, push_arm, push_default};
 use smallvec::SmallVec;
 
 impl<R: LentReaders> Reader<'_, R> {

@@ -11,14 +11,15 @@ ghost use Rattle.rhai_reading.specs.Reading.{ArmEnd, DefaultEnd, arm_on, default
 ghost use Rattle.rhai_reading.specs.Running.{Caller, Done, Gives, Out, Progress, and_then, exec, recast, result_of};
 ghost use Rattle.rhai_readers.specs.Readers.{GoesOn, state_of};
 ghost use Rattle.rhai_statements.specs.Switches.{action_view, arm_view, cases_view};
-ghost use Rattle.rhai_trees.specs.Arms.{arms_view};
+ghost use Rattle.rhai_cases.specs.Arms.{arms_view};
 ghost use Rattle.rhai_readers.specs.Heights.{Steady};
 
+use rhai_cases::{Arms, ends_arm, test_cases};
 use rhai_grammar::ParseResult;
 use rhai_leaves::arms::{arm_continues, as_literal, default_ends};
 use rhai_lower::{Expr, Position, Stmt};
 use rhai_readers::Shared;
-use rhai_trees::{Arms, ends_arm, make_statement_value, test_cases};
+use rhai_trees::make_statement_value;
 use smallvec::SmallVec;
 use std::alloc::Global;
 

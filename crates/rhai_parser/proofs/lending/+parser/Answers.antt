@@ -10,7 +10,7 @@ falls is below same = omega (arith, is, below, same)
 
 pub parse_chain-parse_chain-read-requires : goal.parse_chain-parse_chain-read-requires
 parse_chain-parse_chain-read-requires t c =
-    let same = ap (need (expression c.args.engine.now c.args.frame.now c.args.settings)) c.enter.ensures.enters ∙ c.decreases in record {
+    let same = ap (need (expression c.args.engine.now c.args.frame.now c.args.settings)) c.nested-enter.ensures.enters ∙ c.decreases in record {
       lent = λ m below. (
         λ engine shared frame settings is. ((falls is below same, tt), λ result after told. told.1),
         λ engine shared frame settings is. ((falls is below same, tt), λ result after after_frame told. told.1),
@@ -21,7 +21,7 @@ parse_chain-parse_chain-read-requires t c =
 
 pub parse_stmt-parse_stmt-read-requires : goal.parse_stmt-parse_stmt-read-requires
 parse_stmt-parse_stmt-read-requires t c =
-    let same = ap (need (statement c.args.engine.now c.args.frame.now c.args.settings)) c.enter.ensures.enters ∙ c.decreases in record {
+    let same = ap (need (statement c.args.engine.now c.args.frame.now c.args.settings)) c.nested-enter.ensures.enters ∙ c.decreases in record {
       lent = λ m below. (
         λ engine shared frame settings is. ((falls is below same, tt), λ result after told. told.1),
         λ engine shared frame settings is. ((falls is below same, tt), λ result after after_frame told. told.1),
@@ -32,7 +32,7 @@ parse_stmt-parse_stmt-read-requires t c =
 
 pub parse_construct-parse_construct-read-requires : goal.parse_construct-parse_construct-read-requires
 parse_construct-parse_construct-read-requires t c =
-    let same = ap (need (construct c.args.kind c.args.engine.now c.args.frame.now c.args.settings)) c.enter.ensures.enters ∙ c.decreases in record {
+    let same = ap (need (construct c.args.kind c.args.engine.now c.args.frame.now c.args.settings)) c.nested-enter.ensures.enters ∙ c.decreases in record {
       lent = λ m below. (
         λ engine shared frame settings is. ((falls is below same, tt), λ result after told. told.1),
         λ engine shared frame settings is. ((falls is below same, tt), λ result after after_frame told. told.1),
@@ -43,7 +43,7 @@ parse_construct-parse_construct-read-requires t c =
 
 pub parse_block_inside-parse_block_inside-read-requires : goal.parse_block_inside-parse_block_inside-read-requires
 parse_block_inside-parse_block_inside-read-requires t c =
-    let same = ap (need (inside c.args.engine.now c.args.frame.now c.args.settings)) c.enter.ensures.enters ∙ c.decreases in record {
+    let same = ap (need (inside c.args.engine.now c.args.frame.now c.args.settings)) c.nested-enter.ensures.enters ∙ c.decreases in record {
       lent = λ m below. (
         λ engine shared frame settings is. ((falls is below same, tt), λ result after told. told.1),
         λ engine shared frame settings is. ((falls is below same, tt), λ result after after_frame told. told.1),

@@ -15,7 +15,7 @@ use Rattle.rhai_expressions.proofs.reader.Reader.+parse_written.Goals as goal
 pub returns-clause-reads : goal.returns-clause-reads
 returns-clause-reads g t c =
     let due = sign_result (lexeme c.take-sign.result.0) c.take-sign.result.1 (chain_view c.in_ok-operand.operand) in
-    let left = state_of c.leave.new.self in
+    let left = state_of c.nested-leave.new.self in
     let same : result_of (operand c.args.self.now.engine.now c.args.frame.now c.args.settings) (state_of c.args.shared.now) ≡ outcome due left = grind (arith, rule.parse_written) in
     answer_given chain_view due left c.sign_operand.result same c.sign_operand.ensures.answers c.sign_operand.ensures.nowhere
 

@@ -16,7 +16,7 @@ loop-links-preserved g c =
     let spot : LinkSpot = record { settings = context_of c.args.self.now.engine.now c.args.frame.now c.loop-links.settings; brackets = context_of c.args.self.now.engine.now c.args.frame.now c.loop-links.brackets; indexed = indexed_by (chain_view c.args.lhs.now) (link_views c.loop-links.links.items); before = link_views c.loop-links.links.items } in
     let next : LinkSpot = record { settings = context_of c.args.self.now.engine.now c.args.frame.now c.in_ok-settings-in-Dot.settings; brackets = context_of c.args.self.now.engine.now c.args.frame.now c.in_ok-settings-in-Dot.settings; indexed = indexed_by (chain_view c.args.lhs.now) (link_views c.push-in-Dot.new.self.items); before = link_views c.push-in-Dot.new.self.items } in
     let taken : DotTaken (context_of c.args.self.now.engine.now c.args.frame.now c.in_ok-settings-in-Dot.settings) (live_of c.args.frame.now) spot next (lexeme c.in_ok-token.field-0.now.0) c.in_ok-token.field-0.now.1 (view c.in_ok-item-in-Dot.item)
-    (state_of c.loop-links.shared) (state_at c.loop-links.shared (cursor_of c.peek.follows.lender-at-none)) (state_at c.loop-links.shared (cursor_of c.skip-in-Dot.new.input)) (state_at c.loop-links.shared (cursor_of c.member_due.new.input)) (state_of c.leave-in-Dot.new.self) = record {
+    (state_of c.loop-links.shared) (state_at c.loop-links.shared (cursor_of c.peek.follows.lender-at-none)) (state_at c.loop-links.shared (cursor_of c.skip-in-Dot.new.input)) (state_at c.loop-links.shared (cursor_of c.member_due.new.input)) (state_of c.nested-leave-in-Dot.new.self) = record {
       token = search rules;
       readable = search rules;
       dot = search rules;
@@ -29,7 +29,7 @@ loop-links-preserved g c =
       look_on = ap (state_at c.loop-links.shared) c.member_due.ensures.after;
       room = search rules;
       deeper = search rules;
-      member = nested_done _ _ c.enter-in-Dot.ensures.enters (search rules) c.leave-in-Dot.ensures.leaves;
+      member = nested_done _ _ c.nested-enter-in-Dot.ensures.enters (search rules) c.nested-leave-in-Dot.ensures.leaves;
       member_short = search rules;
       joined = search (rules, links_push, indexed_after);
     } in
@@ -48,7 +48,7 @@ loop-links-preserved-in-Bracket g c =
     let spot : LinkSpot = record { settings = context_of c.args.self.now.engine.now c.args.frame.now c.loop-links.settings; brackets = context_of c.args.self.now.engine.now c.args.frame.now c.loop-links.brackets; indexed = indexed_by (chain_view c.args.lhs.now) (link_views c.loop-links.links.items); before = link_views c.loop-links.links.items } in
     let next : LinkSpot = record { settings = context_of c.args.self.now.engine.now c.args.frame.now c.loop-links.settings; brackets = context_of c.args.self.now.engine.now c.args.frame.now c.in_ok-brackets-in-Bracket.brackets; indexed = indexed_by (chain_view c.args.lhs.now) (link_views c.push.new.self.items); before = link_views c.push.new.self.items } in
     let taken : BracketTaken (context_of c.args.self.now.engine.now c.args.frame.now c.in_ok-brackets-in-Bracket.brackets) (context_of c.args.self.now.engine.now c.args.frame.now c.in_ok-deeper-in-Bracket.deeper) (live_of c.args.frame.now) spot next (lexeme c.in_ok-token.field-0.now.0) c.in_ok-token.field-0.now.1 (view c.in_ok-item-in-Bracket.item)
-    (state_of c.loop-links.shared) (state_at c.loop-links.shared (cursor_of c.peek.follows.lender-at-none)) (state_at c.loop-links.shared (cursor_of c.skip.new.input)) (state_of c.leave.new.self) = record {
+    (state_of c.loop-links.shared) (state_at c.loop-links.shared (cursor_of c.peek.follows.lender-at-none)) (state_at c.loop-links.shared (cursor_of c.skip.new.input)) (state_of c.nested-leave.new.self) = record {
       token = search rules;
       readable = search rules;
       bracket = search rules;
@@ -60,7 +60,7 @@ loop-links-preserved-in-Bracket g c =
       deeper = search rules;
       room_on = search rules;
       inside = search rules;
-      index = nested_done _ _ c.enter.ensures.enters (search rules) c.leave.ensures.leaves;
+      index = nested_done _ _ c.nested-enter.ensures.enters (search rules) c.nested-leave.ensures.leaves;
       index_short = search rules;
       joined = search (rules, links_push, indexed_after);
     } in

@@ -51,8 +51,8 @@ returns-in_err-call g c = record {
       let there = same_called c.args.self.now.engine.now c.args.frame.now c.at.result c.args.settings c.in_ok-named.named.pos c.is_qualified_name-qualified.result (is_qualified y) (state_of c.named_operand.new.shared) c.at.ensures.settings c.at.ensures.position (c.is_qualified_name-qualified.ensures c.in_ok-named.named.pos ∙ ap (λ (v : VariableExpr). is_qualified (variable (named v) c.in_ok-named.named.pos)) c.deref.ensures) in
       rw (p.1, p.2) (
         λ told. rw (c.in-Ok.ensures.variable)
-            (call_refused context live x y c.in_ok-named.named.called (state_of c.args.shared.now) (state_of c.named_operand.new.shared) (state_of c.leave.new.self) (search rules) (c.in_ok-named.ensures.found context) c.in_ok-named.ensures.goes_on.shorter _
-            (sym there ∙ nested_refused {A = Bool × Nodes} _ _ c.enter.ensures.enters (c.in_err-call.ensures.reads.0 told) c.leave.ensures.leaves)),
+            (call_refused context live x y c.in_ok-named.named.called (state_of c.args.shared.now) (state_of c.named_operand.new.shared) (state_of c.nested-leave.new.self) (search rules) (c.in_ok-named.ensures.found context) c.in_ok-named.ensures.goes_on.shorter _
+            (sym there ∙ nested_refused {A = Bool × Nodes} _ _ c.nested-enter.ensures.enters (c.in_err-call.ensures.reads.0 told) c.nested-leave.ensures.leaves)),
         c.in_err-call.ensures.reads.1,
       );
 }
@@ -70,8 +70,8 @@ returns-in_err-test_path g c = record {
       let there = same_called c.args.self.now.engine.now c.args.frame.now c.at.result c.args.settings c.in_ok-named.named.pos c.is_qualified_name-qualified.result (is_qualified y) (state_of c.named_operand.new.shared) c.at.ensures.settings c.at.ensures.position (c.is_qualified_name-qualified.ensures c.in_ok-named.named.pos ∙ ap (λ (v : VariableExpr). is_qualified (variable (named v) c.in_ok-named.named.pos)) c.deref.ensures) in
       rw (p.1, p.2) (
         λ told. rw (c.in-Ok.ensures.variable)
-            (call_unknown context live x y c.in_ok-named.named.called (state_of c.args.shared.now) (state_of c.named_operand.new.shared) (state_of c.leave.new.self) (search rules) (c.in_ok-named.ensures.found context) c.in_ok-named.ensures.goes_on.shorter _
-            (sym there ∙ nested_done {A = Bool × Nodes} _ _ c.enter.ensures.enters c.in_ok-call.ensures.reads c.leave.ensures.leaves) _ (sym (ap (λ (v : VariableExpr). module_fault context live (variable (named v) c.in_ok-named.named.pos)) c.deref-2.ensures) ∙ c.in_err-test_path.ensures.refused context refl refl told)),
+            (call_unknown context live x y c.in_ok-named.named.called (state_of c.args.shared.now) (state_of c.named_operand.new.shared) (state_of c.nested-leave.new.self) (search rules) (c.in_ok-named.ensures.found context) c.in_ok-named.ensures.goes_on.shorter _
+            (sym there ∙ nested_done {A = Bool × Nodes} _ _ c.nested-enter.ensures.enters c.in_ok-call.ensures.reads c.nested-leave.ensures.leaves) _ (sym (ap (λ (v : VariableExpr). module_fault context live (variable (named v) c.in_ok-named.named.pos)) c.deref-2.ensures) ∙ c.in_err-test_path.ensures.refused context refl refl told)),
         c.in_err-test_path.ensures.nowhere,
       );
 }
@@ -87,6 +87,6 @@ returns g c = record {
       let y = variable (named c.in_ok-named.named.name.value) c.in_ok-named.named.pos in
       let there = same_called c.args.self.now.engine.now c.args.frame.now c.at.result c.args.settings c.in_ok-named.named.pos c.is_qualified_name-qualified.result (is_qualified y) (state_of c.named_operand.new.shared) c.at.ensures.settings c.at.ensures.position (c.is_qualified_name-qualified.ensures c.in_ok-named.named.pos ∙ ap (λ (v : VariableExpr). is_qualified (variable (named v) c.in_ok-named.named.pos)) c.deref.ensures) in
       rw (c.in-Ok.ensures.variable)
-      (call_given context live x y c.in_ok-named.named.called (state_of c.args.shared.now) (state_of c.named_operand.new.shared) (state_of c.leave.new.self) (search rules) (c.in_ok-named.ensures.found context) c.in_ok-named.ensures.goes_on.shorter _
-      (sym there ∙ nested_done {A = Bool × Nodes} _ _ c.enter.ensures.enters c.in_ok-call.ensures.reads c.leave.ensures.leaves) (sym (ap (λ (v : VariableExpr). module_fault context live (variable (named v) c.in_ok-named.named.pos)) c.deref-2.ensures) ∙ c.in_ok-test_path.ensures.passes context refl refl) ∙ ap (λ n. Done n (state_of c.leave.new.self)) (sym (c.from_value-2.ensures ∙ c.in_ok-call-2.ensures)));
+      (call_given context live x y c.in_ok-named.named.called (state_of c.args.shared.now) (state_of c.named_operand.new.shared) (state_of c.nested-leave.new.self) (search rules) (c.in_ok-named.ensures.found context) c.in_ok-named.ensures.goes_on.shorter _
+      (sym there ∙ nested_done {A = Bool × Nodes} _ _ c.nested-enter.ensures.enters c.in_ok-call.ensures.reads c.nested-leave.ensures.leaves) (sym (ap (λ (v : VariableExpr). module_fault context live (variable (named v) c.in_ok-named.named.pos)) c.deref-2.ensures) ∙ c.in_ok-test_path.ensures.passes context refl refl) ∙ ap (λ n. Done n (state_of c.nested-leave.new.self)) (sym (c.from_value-2.ensures ∙ c.in_ok-call-2.ensures)));
 }

@@ -52,7 +52,7 @@ returns-in_err-body g c = record {
         shorter = c.in_ok-names.ensures.goes_on.shorter;
       } in
       rw (p.1, p.2) (body_fails context w c.args.settings.pos c.args.bars inside (live_of frame) names (state_of c.args.shared.now) (state_of c.next_closure_parameters.new.shared) begun
-      _ (state_of c.leave.new.self) (nested_gives statement_view _ _ _ _ _ (Err _) (c.enter.ensures.enters ∙ ap entering c.begin_apart-outer.ensures.apart) c.in_err-body.ensures.reads c.leave.ensures.leaves));
+      _ (state_of c.nested-leave.new.self) (nested_gives statement_view _ _ _ _ _ (Err _) (c.nested-enter.ensures.enters ∙ ap entering c.begin_apart-outer.ensures.apart) c.in_err-body.ensures.reads c.nested-leave.ensures.leaves));
 }
 
 pub returns : goal.returns
@@ -76,7 +76,7 @@ returns g c = record {
       let names = names_of c.in_ok-names.names in
       let s = state_of c.args.shared.now in
       let t = state_of c.next_closure_parameters.new.shared in
-      let u = state_of c.leave.new.self in
+      let u = state_of c.nested-leave.new.self in
       let begun : Begun context w c.args.settings.pos c.args.bars inside (live_of frame) names s t = record {
         fits = search rules;
         parameters = c.in_ok-names.ensures.gives;
@@ -86,7 +86,7 @@ returns g c = record {
         shorter = c.in_ok-names.ensures.goes_on.shorter;
       } in
       body_gives chain_view context w c.args.settings.pos c.args.bars inside (live_of frame) names s t begun
-      (statement_view c.in_ok-body.body) u (nested_done _ _ (c.enter.ensures.enters ∙ ap entering c.begin_apart-outer.ensures.apart) c.in_ok-body.ensures.reads c.leave.ensures.leaves)
+      (statement_view c.in_ok-body.body) u (nested_done _ _ (c.nested-enter.ensures.enters ∙ ap entering c.begin_apart-outer.ensures.apart) c.in_ok-body.ensures.reads c.nested-leave.ensures.leaves)
       c.end_closure.result (state_of c.end_closure.new.shared)
       (ends_gives chain_view context w c.args.settings.pos c.args.bars names s t (statement_view c.in_ok-body.body) u
       (uses_of c.end_apart-captured.result.items) (state_of c.end_apart-captured.new.self) c.end_closure.result (state_of c.end_closure.new.shared)

@@ -38,13 +38,13 @@ returns g c = record {
   stays = grind arith;
   reads =
       let s = state_of c.args.shared.now in
-      let t = state_of c.leave.new.self in
+      let t = state_of c.nested-leave.new.self in
       let context = context_of c.args.self.now.engine.now c.args.frame.now c.args.settings in
       let live = live_of c.args.frame.now in
-      let entered : state_of c.enter.new.self ≡ entering (after_peek s) = grind arith in
+      let entered : state_of c.nested-enter.new.self ≡ entering (after_peek s) = grind arith in
       gives_so chain_view c.parse_ends.result (state_of c.parse_ends.new.shared)
       (operand_begun context live (chain_view c.from_value-operand.result) s t (grind arith) (value_unsigned (beginning (next_item s).lexeme) (grind arith))
-      (nested_done (result_of (Primary context live)) (after_peek s) entered (c.in_ok-value.ensures.reads context live) c.leave.ensures.leaves
+      (nested_done (result_of (Primary context live)) (after_peek s) entered (c.in_ok-value.ensures.reads context live) c.nested-leave.ensures.leaves
       ∙ ap (λ x. R.Done x t) (sym c.from_value-operand.ensures)))
       (c.parse_ends.ensures.reads s (grind arith));
 }

@@ -14,9 +14,9 @@ returns g c = record {
   stays = grind arith;
   reads =
       let s = state_of c.args.shared.now in
-      let entered : state_of c.enter.new.self ≡ entering (after_peek s) = grind arith in
+      let entered : state_of c.nested-enter.new.self ≡ entering (after_peek s) = grind arith in
       gives_so chain_view c.parse_ends.result (state_of c.parse_ends.new.shared)
-      (operand_begun (context_of c.args.self.now.engine.now c.args.frame.now c.args.settings) (live_of c.args.frame.now) (chain_view c.in_ok-primary.primary) s (state_of c.leave.new.self) (grind arith) c.requires.unsigned
-      (nested_done (result_of (primary c.args.self.now.engine.now c.args.frame.now c.args.settings)) (after_peek s) entered c.in_ok-primary.ensures.reads c.leave.ensures.leaves))
+      (operand_begun (context_of c.args.self.now.engine.now c.args.frame.now c.args.settings) (live_of c.args.frame.now) (chain_view c.in_ok-primary.primary) s (state_of c.nested-leave.new.self) (grind arith) c.requires.unsigned
+      (nested_done (result_of (primary c.args.self.now.engine.now c.args.frame.now c.args.settings)) (after_peek s) entered c.in_ok-primary.ensures.reads c.nested-leave.ensures.leaves))
       (c.parse_ends.ensures.reads s (grind arith));
 }

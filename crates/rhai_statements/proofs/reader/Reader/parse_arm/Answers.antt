@@ -2,7 +2,7 @@ use Rattle.std.proofs.Common.{arith}
 use Rattle.rhai_reading.specs.Running.{guarded}
 use Rattle.rhai_readers.specs.Readers.{arm, state_of}
 use Rattle.rhai_statements.specs.Switches.{arm_view}
-use Rattle.rhai_trees.specs.Arms.{arms_view}
+use Rattle.rhai_cases.specs.Arms.{arms_view}
 use Rattle.rhai_statements.proofs.reader.Reader.parse_arm.Goals as goal
 use Rattle.rhai_readers.proofs.Given.{gives_so}
 use Rattle.rhai_statements.proofs.ConstructReaders as rule

@@ -1,7 +1,7 @@
 use Rattle.std.proofs.Common.{◌≡◌}
 use Rattle.rhai_grammar.specs.Cursors.{left}
 use Rattle.rhai_grammar.specs.Switches.{nothing_collected}
-use Rattle.rhai_trees.specs.Arms.{Indexed, arms_view}
+use Rattle.rhai_cases.specs.Arms.{Indexed, arms_view}
 use Rattle.rhai_reading.specs.Running.{result_of}
 use Rattle.rhai_readers.specs.Readers.{GoesOn, arms, state_of}
 use Rattle.rhai_readers.specs.Heights.{Stays}

@@ -37,7 +37,7 @@ returns-in_err-key g c = record {
         stands = search rules;
       } in
       rw (p.1, p.2) (function_fails context (live_of c.args.frame.now) (comments_of c.args.comments.now) c.args.first c.args.settings.pos c.args.private inside c.in_ok-deeper.deeper.pos (state_of c.args.shared.now) begun
-      _ (state_of c.leave.new.self) (nested_gives ended_view _ _ _ _ _ (Err _) c.enter.ensures.enters c.in_err-key.ensures.reads.reads c.leave.ensures.leaves));
+      _ (state_of c.nested-leave.new.self) (nested_gives ended_view _ _ _ _ _ (Err _) c.nested-enter.ensures.enters c.in_err-key.ensures.reads.reads c.nested-leave.ensures.leaves));
 }
 
 pub returns : goal.returns
@@ -65,6 +65,6 @@ returns g c = record {
       } in
       let call = guarded (FunctionStatement context (live_of c.args.frame.now) (comments_of c.args.comments.now) c.args.first c.args.settings.pos c.args.private) (state_of c.args.shared.now) in
       function_gives (with_live statement_view c.args.frame.now) context (live_of c.args.frame.now) (comments_of c.args.comments.now) c.args.first c.args.settings.pos c.args.private inside c.in_ok-deeper.deeper.pos (state_of c.args.shared.now) begun
-      (ended_view (c.in_ok-key.key, c.in_ok-key.function)) (state_of c.leave.new.self) (nested_done _ _ c.enter.ensures.enters c.in_ok-key.ensures.reads.reads c.leave.ensures.leaves)
+      (ended_view (c.in_ok-key.key, c.in_ok-key.function)) (state_of c.nested-leave.new.self) (nested_done _ _ c.nested-enter.ensures.enters c.in_ok-key.ensures.reads.reads c.nested-leave.ensures.leaves)
       c.end_function.result (state_of c.end_function.new.shared) (c.end_function.ensures.gives call (live_of c.args.frame.now));
 }
