@@ -1,4 +1,3 @@
-pub mod StartLemmas
 pub mod PromiseLemmas
 pub mod FrameLemmas
 pub mod NestLemmas

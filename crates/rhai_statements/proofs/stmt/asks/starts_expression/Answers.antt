@@ -1,6 +1,6 @@
 use Rattle.std.proofs.Common.{◌∙◌, sym}
 use Rattle.rhai_lower.specs.Lexemes.{lexeme}
-use Rattle.rhai_parser.proofs.StartLemmas.{closure_starts}
+use Rattle.rhai_statements.proofs.StartLemmas.{closure_starts}
 use Rattle.rhai_statements.proofs.stmt.asks.starts_expression.Goals as goal
 
 pub returns-in-Closure : goal.returns-in-Closure
