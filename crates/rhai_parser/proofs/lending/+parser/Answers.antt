@@ -8,8 +8,8 @@ use Rattle.rhai_parser.proofs.lending.+parser.Goals as goal
 falls : {need left bound measure : ℕ} → need ≡ left → left < bound → bound ≡ measure → need < measure
 falls is below same = omega (arith, is, below, same)
 
-pub parse_chain-parse_chain-read-requires : goal.parse_chain-parse_chain-read-requires
-parse_chain-parse_chain-read-requires t c =
+pub parse_chain-parse_chain-requires : goal.parse_chain-parse_chain-requires
+parse_chain-parse_chain-requires t c =
     let same = ap (need (expression c.args.engine.now c.args.frame.now c.args.settings)) c.nested-enter.ensures.enters ∙ c.decreases in record {
       lent = λ m below. (
         λ engine shared frame settings is. ((falls is below same, tt), λ result after told. told.1),
@@ -19,8 +19,8 @@ parse_chain-parse_chain-read-requires t c =
       );
     }
 
-pub parse_stmt-parse_stmt-read-requires : goal.parse_stmt-parse_stmt-read-requires
-parse_stmt-parse_stmt-read-requires t c =
+pub parse_stmt-parse_stmt-requires : goal.parse_stmt-parse_stmt-requires
+parse_stmt-parse_stmt-requires t c =
     let same = ap (need (statement c.args.engine.now c.args.frame.now c.args.settings)) c.nested-enter.ensures.enters ∙ c.decreases in record {
       lent = λ m below. (
         λ engine shared frame settings is. ((falls is below same, tt), λ result after told. told.1),
@@ -30,8 +30,8 @@ parse_stmt-parse_stmt-read-requires t c =
       );
     }
 
-pub parse_construct-parse_construct-read-requires : goal.parse_construct-parse_construct-read-requires
-parse_construct-parse_construct-read-requires t c =
+pub parse_construct-parse_construct-requires : goal.parse_construct-parse_construct-requires
+parse_construct-parse_construct-requires t c =
     let same = ap (need (construct c.args.kind c.args.engine.now c.args.frame.now c.args.settings)) c.nested-enter.ensures.enters ∙ c.decreases in record {
       lent = λ m below. (
         λ engine shared frame settings is. ((falls is below same, tt), λ result after told. told.1),
@@ -41,8 +41,8 @@ parse_construct-parse_construct-read-requires t c =
       );
     }
 
-pub parse_block_inside-parse_block_inside-read-requires : goal.parse_block_inside-parse_block_inside-read-requires
-parse_block_inside-parse_block_inside-read-requires t c =
+pub parse_block_inside-parse_block_inside-requires : goal.parse_block_inside-parse_block_inside-requires
+parse_block_inside-parse_block_inside-requires t c =
     let same = ap (need (inside c.args.engine.now c.args.frame.now c.args.settings)) c.nested-enter.ensures.enters ∙ c.decreases in record {
       lent = λ m below. (
         λ engine shared frame settings is. ((falls is below same, tt), λ result after told. told.1),

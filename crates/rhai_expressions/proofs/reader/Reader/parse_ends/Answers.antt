@@ -40,5 +40,5 @@ returns-clause-reads g c s less =
     let call = guarded (operand c.args.self.now.engine.now c.args.frame.now c.args.settings) s in
     let entered : state_of c.nested-enter.new.self ≡ entering (after_peek t) = c.nested-enter.ensures.enters ∙ ap entering c.ends_here.ensures.after in
     gives_so chain_view c.end_plain.result (state_of c.nested-leave.new.self)
-    (ends g h s less ∙ ends_plain_at context (live_of c.args.frame.now) (chain_view c.args.primary) s (after_peek t) less entered c.pass_postfix-read.ensures.reads c.nested-leave.ensures.leaves c.pass_links.ensures.reads)
+    (ends g h s less ∙ ends_plain_at context (live_of c.args.frame.now) (chain_view c.args.primary) s (after_peek t) less entered c.pass_postfix.ensures.reads c.nested-leave.ensures.leaves c.pass_links.ensures.reads)
     (c.end_plain.ensures.gives call (state_of c.nested-leave.new.self) context refl refl)

@@ -17,7 +17,7 @@ returns-clause-reads g c = λ h s within.
     let comments = comments_of c.args.comments.now in
     let read = result_of (function_statement comments c.args.settings.pos false engine frame c.args.settings) in
     let from = state_at c.args.shared.now (cursor_of c.skip.new.input) in
-    gives_so (with_live statement_view frame) c.parse_fn-read.result (state_of c.nested-leave.new.self)
+    gives_so (with_live statement_view frame) c.parse_fn.result (state_of c.nested-leave.new.self)
     (plain_read h s (context_of engine frame c.args.settings) (live_of frame) comments c.args.settings.pos (state_of c.args.shared.now) from c.requires.readable
     (ap (state_at c.args.shared.now) c.skip.ensures.after) (c.skip.ensures.shrinks c.requires.more) within)
-    (nested_gives (with_live statement_view frame) read from _ _ _ c.parse_fn-read.result c.nested-enter.ensures.enters c.parse_fn-read.ensures.reads c.nested-leave.ensures.leaves)
+    (nested_gives (with_live statement_view frame) read from _ _ _ c.parse_fn.result c.nested-enter.ensures.enters c.parse_fn.ensures.reads c.nested-leave.ensures.leaves)

@@ -26,8 +26,8 @@ returns-clause-reads g c = λ h s within.
     let read = result_of (function_statement comments c.args.settings.pos true engine frame c.at-inner.result) in
     let from = state_at c.args.shared.now (cursor_of c.match_token.new.input) in
     let same : exec (guarded h s) (private_on (context_of engine frame c.args.settings) (live_of frame) comments c.args.settings.pos) (state_of c.args.shared.now) ≡ nested read from = grind (arith, rule.parse_private_fn) in
-    let given = nested_gives (with_live statement_view frame) read from _ _ _ c.parse_fn-read.result c.nested-enter.ensures.enters c.parse_fn-read.ensures.reads c.nested-leave.ensures.leaves in
-    gives_so (with_live statement_view frame) c.parse_fn-read.result (state_of c.nested-leave.new.self) same given
+    let given = nested_gives (with_live statement_view frame) read from _ _ _ c.parse_fn.result c.nested-enter.ensures.enters c.parse_fn.ensures.reads c.nested-leave.ensures.leaves in
+    gives_so (with_live statement_view frame) c.parse_fn.result (state_of c.nested-leave.new.self) same given
 
 pub returns-clause-stays : goal.returns-clause-stays
 returns-clause-stays g c =
