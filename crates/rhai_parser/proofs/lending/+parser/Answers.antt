@@ -14,7 +14,7 @@ parse_chain-parse_chain-requires t c =
       lent = λ m below. (
         λ engine shared frame settings is. ((falls is below same, tt), λ result after told. told.1),
         λ engine shared frame settings is. ((falls is below same, tt), λ result after after_frame told. told.1),
-        λ engine shared frame settings kind is. ((falls is below same, tt), λ result after told. told.1),
+        λ engine shared frame settings kind is. ((falls is below same, tt), λ result after told. told.2),
         λ engine shared frame settings is. ((falls is below same, tt), λ result after told. told.1),
       );
     }
@@ -25,7 +25,7 @@ parse_stmt-parse_stmt-requires t c =
       lent = λ m below. (
         λ engine shared frame settings is. ((falls is below same, tt), λ result after told. told.1),
         λ engine shared frame settings is. ((falls is below same, tt), λ result after after_frame told. told.1),
-        λ engine shared frame settings kind is. ((falls is below same, tt), λ result after told. told.1),
+        λ engine shared frame settings kind is. ((falls is below same, tt), λ result after told. told.2),
         λ engine shared frame settings is. ((falls is below same, tt), λ result after told. told.1),
       );
     }
@@ -36,7 +36,7 @@ parse_construct-parse_construct-requires t c =
       lent = λ m below. (
         λ engine shared frame settings is. ((falls is below same, tt), λ result after told. told.1),
         λ engine shared frame settings is. ((falls is below same, tt), λ result after after_frame told. told.1),
-        λ engine shared frame settings kind is. ((falls is below same, tt), λ result after told. told.1),
+        λ engine shared frame settings kind is. ((falls is below same, tt), λ result after told. told.2),
         λ engine shared frame settings is. ((falls is below same, tt), λ result after told. told.1),
       );
     }
@@ -47,7 +47,7 @@ parse_block_inside-parse_block_inside-requires t c =
       lent = λ m below. (
         λ engine shared frame settings is. ((falls is below same, tt), λ result after told. told.1),
         λ engine shared frame settings is. ((falls is below same, tt), λ result after after_frame told. told.1),
-        λ engine shared frame settings kind is. ((falls is below same, tt), λ result after told. told.1),
+        λ engine shared frame settings kind is. ((falls is below same, tt), λ result after told. told.2),
         λ engine shared frame settings is. ((falls is below same, tt), λ result after told. told.1),
       );
     }
