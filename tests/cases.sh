@@ -120,13 +120,13 @@ run_example() {
     run "$words" 0
 }
 
-# Compares the code that the document $1 shows with the function $2 of a test.
+# Compares the code that the document $1 shows with the function $2 of a test of the crate $3.
 compare_code() {
     local shown called
     file=$1
-    title='its code, and that of crates/rhai_tests/src/readme.rt'
+    title="its code, and that of crates/$3/src/readme.rt"
     shown=$(sed -n '/^```rust$/,/^```$/{/^```/!p}' "$root/$1")
-    called=$(sed -n "/^fn $2(/,/^}\$/p" "$root/crates/rhai_tests/src/readme.rt")
+    called=$(sed -n "/^fn $2(/,/^}\$/p" "$root/crates/$3/src/readme.rt")
     if [ -n "$shown" ] && [ "$shown" = "$called" ]; then
         passed=$((passed + 1))
     else
@@ -157,8 +157,8 @@ other_status= # of an answer with another first word
 for file in "${files[@]}"; do read_file; done
 for file in "${answers[@]}"; do run_example "$file"; done
 if [ $# = 0 ]; then
-    compare_code README.md parse
-    compare_code docs/ARCHITECTURE.md parse_tokens
+    compare_code README.md parse rhai_case_tests
+    compare_code docs/ARCHITECTURE.md parse_tokens rhai_tests
 fi
 other_status=0
 program=$names_program

@@ -3,11 +3,11 @@
 
 usage: tests/compile.py [TOKENS TESTS]
 
-TOKENS is the program rhai-ast, and TESTS has the tests of the crate rhai_tests. Without them both are those that
+TOKENS is the program rhai-ast, and TESTS has the tests of the crate rhai_case_tests. Without them both are those that
 `rt ci` at the top of the repository built last. A list of the table has a text if `rhai-ast tokens` gives just the list
-for it, with all places (hostile/texts.py); then each run of the list has to give the answer of the table for the text too, by
-`compile`, `compile_expression` and `compile_global_level` (a test of rhai_tests, texts.rt). The same is done with
-examples/*.rhai.
+for it, with all places (hostile/texts.py); then each run of the list has to give the answer of the table for the text
+too, by `compile`, `compile_expression` and `compile_global_level` (a test of rhai_case_tests, texts.rt). The same is
+done with examples/*.rhai.
 The last line counts the runs; the exit status is 1 if any failed.
 """
 
@@ -49,7 +49,7 @@ def check(tests, runs):
 
 def programs(words, library):
     """The programs that are named, or those that were built."""
-    built = ("rhai_ast/out/rhai_ast", "rhai_tests/out/rhai_tests_tests")
+    built = ("rhai_ast/out/rhai_ast", "rhai_case_tests/out/rhai_case_tests_tests")
     paths = words or [ROOT / "crates" / it for it in built]
     return [batch.Program(library, os.path.realpath(it)) for it in paths]
 

@@ -2,12 +2,12 @@
 """Runs the program without memory, on damaged lists, and where inputs and outputs fail. hostile/README.md says how. It
 prints each run that fails, and counts; the last line counts the runs, and the exit status is 1 if any failed.
 
-usage: tests/hostile.py [--jobs N] [--wrong] [PROGRAM [TESTS [BASE_TESTS]]]
+usage: tests/hostile.py [--jobs N] [--wrong] [PROGRAM [CASE_TESTS [TESTS ..]]]
 
-PROGRAM is rhai-parse, TESTS has the tests of the crate rhai_tests, and BASE_TESTS those of rhai_base_tests. Without
-PROGRAM they are those that `rt ci` at the top of the repository built last, and the program of crates/rhai_names_cli is
-run too. It keeps N processors busy, or all. With --wrong it tests the tests instead, in seconds: over some lists, wrong
-programs have to fail (hostile/wrong.py).
+PROGRAM is rhai-parse, CASE_TESTS has the tests of the crate rhai_case_tests, and each of TESTS those of another crate,
+as rhai_tests. Without PROGRAM they are those that `rt ci` at the top of the repository built last, with TESTS of
+rhai_tests and rhai_base_tests, and the program of crates/rhai_names_cli is run too. It keeps N processors busy, or all.
+With --wrong it tests the tests instead, in seconds: over some lists, wrong programs have to fail (hostile/wrong.py).
 """
 
 import argparse
@@ -135,10 +135,10 @@ def tasks_of_calls(tests):
     return [(refused_in_a_call, tests, name) for name in calls.names(tests.path)]
 
 
-def tasks_of_tests(tests):
-    """What is to do with the tests of the library."""
-    found, runs = tasks_of_calls(tests), stored.list_runs()
-    found += [(libraries_after_refusals, tests, run) for run in libraries.runs_with_functions(runs)]
+def tasks_of_cases(tests):
+    """What is to do with the tests that read a list."""
+    runs = stored.list_runs()
+    found = [(libraries_after_refusals, tests, run) for run in libraries.runs_with_functions(runs)]
     scripts = entries.scripts(runs)
     for at in range(0, len(scripts), RUNS_AT_A_LEVEL):
         found += [(scripts_at_a_level, tests, scripts[at : at + RUNS_AT_A_LEVEL], level) for level in entries.LEVELS]
@@ -174,29 +174,32 @@ def arguments():
     parser.add_argument("--jobs", type=int)
     parser.add_argument("--wrong", action="store_true")
     parser.add_argument("program", nargs="?")
-    parser.add_argument("tests", nargs="?")
-    parser.add_argument("base_tests", nargs="?")
+    parser.add_argument("case_tests", nargs="?")
+    parser.add_argument("tests", nargs="*")
     return parser.parse_args()
 
 
 def programs(words, library):
-    """The programs with which the tests are made: rhai-parse, the tests of the library, those of the crates below the
-    parser, and rhai-names, each or none."""
+    """The programs with which the tests are made: rhai-parse, rhai-names and the tests of cases, each or none, and all
+    tests in pairs."""
     if words.program:
-        named = [words.program, words.tests, words.base_tests]
-        return [batch.Program(library, os.path.realpath(path)) if path else None for path in named] + [None]
-    tests = [(crate, f"{crate}_tests") for crate in ("rhai_tests", "rhai_base_tests")]
-    crates = ("rhai_parse", "rhai_parse"), *tests, ("rhai_names_cli", "rhai_names_cli")
-    return [built(library, *crate) for crate in crates]
+        named = [words.program, None, words.case_tests]
+        pairs = [batch.Program(library, os.path.realpath(path)) for path in words.tests]
+        return *(batch.Program(library, os.path.realpath(path)) if path else None for path in named), pairs
+    pairs = [built(library, crate, f"{crate}_tests") for crate in ("rhai_tests", "rhai_base_tests")]
+    cases = ("rhai_case_tests", "rhai_case_tests_tests")
+    crates = ("rhai_parse", "rhai_parse"), ("rhai_names_cli", "rhai_names_cli"), cases
+    return *(built(library, *crate) for crate in crates), pairs
 
 
 def tasks(words, library):
     """What these words of the command line ask for."""
-    program, tests, base_tests, names = programs(words, library)
+    program, names, cases, pairs = programs(words, library)
     if words.wrong:
-        return [(wrong_programs, program), *([(wrong_libraries, tests)] if tests else [])]
+        return [(wrong_programs, program), *([(wrong_libraries, cases)] if cases else [])]
     found = tasks_of_program(program) + (tasks_of_names(names) if names else [])
-    return found + (tasks_of_tests(tests) if tests else []) + (tasks_of_calls(base_tests) if base_tests else [])
+    found += tasks_of_cases(cases) if cases else []
+    return found + [task for tests in pairs for task in tasks_of_calls(tests)]
 
 
 def main():

@@ -1,4 +1,4 @@
-"""Calls that the programs do not make: `parse` at each level, and `names_of_script`. Tests of `rhai_tests` (lists.rt)
+"""Calls that the programs do not make: `parse` at each level, and `names_of_script`. Tests of `rhai_case_tests` (lists.rt)
 make them for a list that they read, with its limits and options."""
 
 import table

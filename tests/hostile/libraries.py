@@ -1,6 +1,6 @@
 """What the library holds after a refusal: exactly what has ended by then.
 
-A test of `rhai_tests` (lists.rt) reads a list, and prints the first line of the answer, how many tokens were taken, and
+A test of `rhai_case_tests` (lists.rt) reads a list, and prints the first line of the answer, how many tokens were taken, and
 the library. It makes the runs of the table that have functions: with the tokenizer out of memory for each token, and
 with each request for memory refused. Where a function ends follows from the list alone (due.py).
 """

@@ -1,8 +1,8 @@
 //! Lists of tokens, as docs/FORMAT.md describes them: one token on a line.
 
+use rhai_formats::Escaped;
 use rhai_lower::{Entry, LexError, Token};
 use rhai_report::in_file;
-use rhai_run::Escaped;
 use rhai_tokenizer::{Span, Tokens};
 use std::alloc::{AllocError, Global};
 

@@ -1,5 +1,5 @@
-//! The base of the readers: settings, state, frames, look-ups, the library, and leaves. Leaves ask of tokens, or take
-//! them, without reading an expression. The cursor and the nodes of values and names are here too.
+//! The base of the readers: settings, state, frames, look-ups, and the library. The nodes of values and names are here
+//! too.
 #![tactic(auto)]
 
 pub mod allowed;
@@ -8,12 +8,10 @@ pub mod closure_name;
 pub mod closures;
 pub mod comments;
 pub mod counts;
-pub mod cursor;
 pub mod flags;
 pub mod fn_lib;
 pub mod frame;
 pub mod known;
-pub mod leaves;
 pub mod library;
 pub mod library_index;
 pub mod literals;

@@ -1,5 +1,4 @@
 pub mod BoolLemmas
 pub mod NameLemmas
 pub mod NotedLemmas
-pub mod ScriptLemmas
 pub mod SetLemmas

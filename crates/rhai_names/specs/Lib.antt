@@ -1,3 +1,2 @@
 pub mod FnNames
-pub mod Scripts
 pub mod Noted

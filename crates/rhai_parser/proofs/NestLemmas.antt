@@ -9,7 +9,7 @@ use Rattle.rhai_reading.specs.Running.{Done, Progress, result_of}
 use Rattle.rhai_grammar.specs.declared.error.ParseError.{ParseError}
 use Rattle.rhai_base.specs.Counts.{Counts, with_entered, with_peak}
 use Rattle.rhai_base.specs.declared.settings.ParseSettings.{ParseSettings}
-use Rattle.rhai_parser.specs.Engines.{EngineValue}
+use Rattle.rhai_readers.specs.Engines.{EngineValue}
 use Rattle.std.specs.Prelude.{◌⊎◌}
 use Rattle.rhai_grammar.specs.Cursors.{Cursor}
 use Rattle.rhai_grammar.specs.Libraries.{Library}
@@ -23,9 +23,9 @@ use Rattle.rhai_productions.proofs.Depth.{nests}
 use Rattle.std.proofs.Math.Nat.{le_refl}
 use Rattle.rhai_base.specs.Counts.{counts_of}
 use Rattle.rhai_base.specs.Frames.{FrameValue}
-use Rattle.rhai_parser.specs.Heights.{Holds, IsWithin, Stays, function_height}
-use Rattle.rhai_parser.specs.declared.shared.Shared.{Shared}
-use Rattle.rhai_parser.proofs.Heights.{function_room_most, gap_most}
+use Rattle.rhai_readers.specs.Heights.{Holds, IsWithin, Stays, function_height}
+use Rattle.rhai_readers.specs.declared.shared.Shared.{Shared}
+use Rattle.rhai_readers.proofs.Heights.{function_room_most, gap_most}
 use Rattle.std.proofs.Common.{inl, inr}
 
 -- what the code's reader of a script leaves

@@ -22,7 +22,7 @@ use Rattle.rhai_base.specs.Libraries.{Begins, Grows, library_of}
 use Rattle.rhai_parser.specs.Scripts.{Accepts, Constants, IsMadeOf, Makes, IsScript, IsScriptOf, ReadsAst, ReadsExpression, ReadsScript, function_views, functions_in}
 use Rattle.rhai_lower.specs.declared.optimizer.OptimizationLevel.{OptimizationLevel}
 use Rattle.rhai_grammar.specs.declared.error.ParseError.{ParseError}
-use Rattle.rhai_base.proofs.ErrorLemmas.{memory_cause}
+use Rattle.rhai_leaves.proofs.ErrorLemmas.{memory_cause}
 use Rattle.rhai_reading.specs.Reading.{Goal, Script, Val, Whole}
 use Rattle.rhai_reading.specs.Running.{Done, Fails, Progress, result_of}
 use Rattle.rhai_reading.proofs.Entries as M

@@ -1,17 +1,3 @@
-pub mod Bounds
-pub mod Frames
-pub mod Engines
-pub mod Readers
-pub mod Heights
-pub mod NextOperators
-pub mod Runs
-pub mod ExprViews
-pub mod Closures
-pub mod MapKeys
-pub mod Operands
-pub mod PlainPrimaries
-pub mod Switches
-pub mod RareStatements
 pub mod Starts
 pub mod Nesting
 pub mod Scripts

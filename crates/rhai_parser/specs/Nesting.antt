@@ -10,7 +10,7 @@ use Rattle.rhai_grammar.specs.Promises.{Written, written}
 use Rattle.rhai_grammar.specs.Rules.{production}
 use Rattle.rhai_base.specs.Counts.{Counts}
 use Rattle.rhai_base.specs.declared.settings.ParseSettings.{ParseSettings}
-use Rattle.rhai_parser.specs.Engines.{EngineValue}
+use Rattle.rhai_readers.specs.Engines.{EngineValue}
 
 -- Where both depth limits are positive, never were more parsing functions active, beside those that were, than eight
 -- for each level of a script and of a function, and for these more.

@@ -5,11 +5,11 @@ ghost use Rattle.std.specs.Int.RustNames.{bit_and};
 ghost use Rattle.rhai_base.specs.Frames.{known_variables};
 ghost use Rattle.std.specs.Rc.{rc_str_bytes};
 ghost use Rattle.rhai_grammar.specs.Imports.{is_among};
-ghost use Rattle.rhai_parser.specs.Engines.{fresh_engine, with_bits, expr_settings};
+ghost use Rattle.rhai_readers.specs.Engines.{fresh_engine, with_bits, expr_settings};
 
-use bitflags::Flags;
 use rhai_base::{Known, LangOptions, ParseSettingFlags, ParseSettings};
 use rhai_lower::{NamedList, Position, Scope};
+use rhai_readers::Config;
 use std::alloc::{AllocError, Global};
 use std::marker::Model;
 use std::rc::RcStr;
@@ -17,34 +17,16 @@ use std::rc::RcStr;
 /// The options and limits that scripts are read under.
 #[derive(Drop)]
 pub struct Engine {
-    // Where its parsers take memory.
-    alloc: Global,
-    options: LangOptions,
-    max_expr_depth: usize,
-    max_function_expr_depth: usize,
-    max_functions: usize,
-    max_array_size: usize,
-    max_map_size: usize,
-    // The names of the modules that scripts find without importing them.
-    sub_modules: NamedList<RcStr>,
+    // What the readers read under.
+    pub(crate) config: Config,
 }
 
 impl Model for Engine {
-    ghost use Rattle.std.specs.Prelude.{map};
-    ghost use Rattle.std.specs.Rc.{rc_str_bytes};
-    ghost use Rattle.rhai_parser.specs.Engines.{EngineValue};
+    ghost use Rattle.rhai_readers.specs.Engines.{EngineValue};
 
     ghost Value = { EngineValue };
 
-    ghost view = { λ e. record {
-      options = e.options.0;
-      max_expr_depth = e.max_expr_depth;
-      max_function_expr_depth = e.max_function_expr_depth;
-      max_functions = e.max_functions;
-      max_array_size = e.max_array_size;
-      max_map_size = e.max_map_size;
-      sub_modules = map rc_str_bytes e.sub_modules;
-    } };
+    ghost view = { λ e. e.config };
 }
 
 impl Engine {
@@ -53,7 +35,7 @@ impl Engine {
     pub fn new(alloc: Global) -> Self
         ensures { result ≡ fresh_engine }
     {
-        Engine {
+        let config = Config {
             alloc,
             options: !LangOptions::STRICT_VAR,
             max_expr_depth: 64,
@@ -62,33 +44,34 @@ impl Engine {
             max_array_size: 0,
             max_map_size: 0,
             sub_modules: NamedList::new(alloc),
-        }
+        };
+        Engine { config }
     }
 
     // Where the readers take memory from.
     pub(crate) fn alloc(&self) -> Global {
-        self.alloc
+        self.config.alloc
     }
 
     /// The language options.
     pub fn options(&self) -> LangOptions
         ensures { result.0 ≡ self.now.options }
     {
-        self.options
+        self.config.options
     }
 
     /// Sets the language options.
     pub fn set_options(&mut self, options: LangOptions)
         ensures { self.new ≡ record self.old { options = options.0 } }
     {
-        self.options = options;
+        self.config.options = options;
     }
 
     /// Whether scripts may have loops.
     pub fn allow_looping(&self) -> bool
         ensures { result ≡ (bit_and self.now.options 32 == 32) }
     {
-        self.options.contains(LangOptions::LOOPING)
+        self.config.allow_looping()
     }
 
     /// Sets whether scripts may have loops.
@@ -96,9 +79,9 @@ impl Engine {
         ensures { self.new ≡ record self.old { options = with_bits self.old.options 32 enable } }
     {
         if enable {
-            self.options |= LangOptions::LOOPING;
+            self.config.options |= LangOptions::LOOPING;
         } else {
-            self.options -= LangOptions::LOOPING;
+            self.config.options -= LangOptions::LOOPING;
         }
     }
 
@@ -106,7 +89,7 @@ impl Engine {
     pub fn allow_shadowing(&self) -> bool
         ensures { result ≡ (bit_and self.now.options 128 == 128) }
     {
-        self.options.contains(LangOptions::SHADOWING)
+        self.config.allow_shadowing()
     }
 
     /// Sets whether a script may define a variable of a name that is there already.
@@ -114,9 +97,9 @@ impl Engine {
         ensures { self.new ≡ record self.old { options = with_bits self.old.options 128 enable } }
     {
         if enable {
-            self.options |= LangOptions::SHADOWING;
+            self.config.options |= LangOptions::SHADOWING;
         } else {
-            self.options -= LangOptions::SHADOWING;
+            self.config.options -= LangOptions::SHADOWING;
         }
     }
 
@@ -124,70 +107,70 @@ impl Engine {
     pub fn max_expr_depth(&self) -> usize
         ensures { result ≡ self.now.max_expr_depth }
     {
-        self.max_expr_depth
+        self.config.max_expr_depth
     }
 
     /// Sets the greatest level of nesting in a script outside its functions; 0 is no limit.
     pub fn set_max_expr_depth(&mut self, depth: usize)
         ensures { self.new ≡ record self.old { max_expr_depth = depth } }
     {
-        self.max_expr_depth = depth;
+        self.config.max_expr_depth = depth;
     }
 
     /// The greatest level of nesting in a function; 0 is no limit.
     pub fn max_function_expr_depth(&self) -> usize
         ensures { result ≡ self.now.max_function_expr_depth }
     {
-        self.max_function_expr_depth
+        self.config.max_function_expr_depth
     }
 
     /// Sets the greatest level of nesting in a function; 0 is no limit.
     pub fn set_max_function_expr_depth(&mut self, depth: usize)
         ensures { self.new ≡ record self.old { max_function_expr_depth = depth } }
     {
-        self.max_function_expr_depth = depth;
+        self.config.max_function_expr_depth = depth;
     }
 
     /// The greatest number of functions and closures of a script; 0 allows none.
     pub fn max_functions(&self) -> usize
         ensures { result ≡ self.now.max_functions }
     {
-        self.max_functions
+        self.config.max_functions
     }
 
     /// Sets the greatest number of functions and closures of a script; 0 allows none.
     pub fn set_max_functions(&mut self, count: usize)
         ensures { self.new ≡ record self.old { max_functions = count } }
     {
-        self.max_functions = count;
+        self.config.max_functions = count;
     }
 
     /// The greatest number of items of an array literal; 0 is no limit.
     pub fn max_array_size(&self) -> usize
         ensures { result ≡ self.now.max_array_size }
     {
-        self.max_array_size
+        self.config.max_array_size
     }
 
     /// Sets the greatest number of items of an array literal; 0 is no limit.
     pub fn set_max_array_size(&mut self, size: usize)
         ensures { self.new ≡ record self.old { max_array_size = size } }
     {
-        self.max_array_size = size;
+        self.config.max_array_size = size;
     }
 
     /// The greatest number of properties of an object map literal; 0 is no limit.
     pub fn max_map_size(&self) -> usize
         ensures { result ≡ self.now.max_map_size }
     {
-        self.max_map_size
+        self.config.max_map_size
     }
 
     /// Sets the greatest number of properties of an object map literal; 0 is no limit.
     pub fn set_max_map_size(&mut self, size: usize)
         ensures { self.new ≡ record self.old { max_map_size = size } }
     {
-        self.max_map_size = size;
+        self.config.max_map_size = size;
     }
 
     /// Whether scripts find a module of this name without importing it. It does not allocate. The time does not grow
@@ -195,7 +178,7 @@ impl Engine {
     pub fn has_sub_module(&self, name: &str) -> bool
         ensures { result ≡ is_among name.now self.now.sub_modules }
     {
-        self.sub_modules.has_name(name)
+        self.config.sub_modules.has_name(name)
     }
 
     /// Lets scripts find a module of this name without importing it. Where there is no memory for that, nothing
@@ -204,8 +187,8 @@ impl Engine {
         ensures ok { OnOk result (self.new ≡ record self.old { sub_modules = self.old.sub_modules ++ name.now ∷ [] }) }
         ensures err { OnErr result (self.new ≡ self.old) }
     {
-        let name = RcStr::from_str(self.alloc, name)?;
-        self.sub_modules.push(name)?;
+        let name = RcStr::from_str(self.config.alloc, name)?;
+        self.config.sub_modules.push(name)?;
         Ok(())
     }
 
@@ -213,7 +196,7 @@ impl Engine {
     pub(crate) fn limits_functions(&self)
         ensures { self.now.max_functions ≤ 2 ^ 64 }
     {
-        let _limit = self.max_functions;
+        let _limit = self.config.max_functions;
     }
 
     // What is known around a script: these variables, these imports, and the modules of the engine.
@@ -228,7 +211,12 @@ impl Engine {
           modules = self.now.sub_modules;
         } }
     {
-        Known::new(self.alloc, variables, imports, &self.sub_modules)
+        Known::new(
+            self.config.alloc,
+            variables,
+            imports,
+            &self.config.sub_modules,
+        )
     }
 
     // The settings that one expression is read under, before the caller changes them.
@@ -238,10 +226,10 @@ impl Engine {
         ParseSettings {
             flags: ParseSettingFlags::GLOBAL_LEVEL
                 | ParseSettingFlags::DISALLOW_STATEMENTS_IN_BLOCKS,
-            options: self.options - LangOptions::STMT_EXPR - LangOptions::LOOP_EXPR,
+            options: self.config.options - LangOptions::STMT_EXPR - LangOptions::LOOP_EXPR,
             level: 0,
             pos: Position::START,
-            max_expr_depth: self.max_expr_depth,
+            max_expr_depth: self.config.max_expr_depth,
         }
     }
 }

@@ -15,22 +15,22 @@ ghost use Rattle.rhai_parser.specs.Scripts.{Accepts, ReadsExpression};
 ghost use Rattle.rhai_base.specs.Libraries.{Begins, Grows, library_of};
 ghost use Rattle.rhai_base.specs.States.{IsFresh};
 ghost use Rattle.rhai_base.specs.Counts.{counts_of};
-ghost use Rattle.rhai_parser.specs.Readers.{nesting_of};
-ghost use Rattle.rhai_parser.specs.Heights.{Holds};
-ghost use Rattle.rhai_parser.specs.Frames.{context_of, live_of};
+ghost use Rattle.rhai_readers.specs.Readers.{nesting_of};
+ghost use Rattle.rhai_readers.specs.Heights.{Holds};
+ghost use Rattle.rhai_readers.specs.Frames.{context_of, live_of};
 ghost use Rattle.rhai_parser.specs.Starts.{KeepsOrder, live_in, starts_in};
-ghost use Rattle.rhai_parser.specs.Engines.{expr_settings};
+ghost use Rattle.rhai_readers.specs.Engines.{expr_settings};
 
 use crate::engine::Engine;
 use crate::lending::parse_whole_expr;
 use crate::library::take_library;
-use crate::shared::Shared;
 use rhai_base::{FnLib, Frame, Library, ParseCounts, ParseSettings, ParseState, functions};
 use rhai_grammar::ParseResult;
 use rhai_lower::{
     AST, Expr, NamedList, OptimizationLevel, Optimizer, Scope, Stmt, StringsInterner, TokenStream,
     Unoptimized,
 };
+use rhai_readers::Shared;
 
 impl Engine {
     // The script of one expression and of all functions of a library, as an optimizer makes it.
@@ -87,7 +87,7 @@ impl Engine {
             interner: StringsInterner::new(self.alloc()),
             counts: *counts,
         };
-        let expr = parse_whole_expr(self, &mut shared, frame, settings);
+        let expr = parse_whole_expr(&self.config, &mut shared, frame, settings);
         // Taken apart as a whole: what is lent is known afterwards only so.
         let Shared {
             input: _input,

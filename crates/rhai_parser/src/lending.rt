@@ -1,4 +1,4 @@
-//! `Lent`: the readers of expressions and of statements, lent to the reader of scripts.
+//! `Lent`: the readers that are lent to those of expressions and of statements.
 
 ghost use Rattle.std.specs.Prelude.{◌≡◌, ◌≤◌, ◌+◌, IfOk, true};
 ghost use Rattle.rhai_lower.specs.Nodes.{no_statements};
@@ -7,32 +7,47 @@ ghost use Rattle.rhai_base.specs.Frames.{SameSurroundings};
 ghost use Rattle.rhai_grammar.specs.Cursors.{left};
 ghost use Rattle.rhai_grammar.specs.Statements.{ends_itself};
 ghost use Rattle.rhai_reading.specs.Running.{need};
-ghost use Rattle.rhai_parser.specs.Readers.{NestsAs, ReadsAs, expression, state_of};
-ghost use Rattle.rhai_parser.specs.Readers.{statement, statements, statements_of, whole, with_live};
-ghost use Rattle.rhai_parser.specs.Heights.{function_height};
+ghost use Rattle.rhai_readers.specs.Readers.{NestsAs, ReadsAs, construct, expression, inside, state_of};
+ghost use Rattle.rhai_readers.specs.Readers.{statement, statements, statements_of, whole, with_live};
+ghost use Rattle.rhai_readers.specs.Heights.{function_height};
 ghost use Rattle.rhai_trees.specs.Chains.{chain_view};
 
-use crate::engine::Engine;
-use crate::lent::LentReaders;
-use crate::reader::Reader;
-use crate::shared::Shared;
-use rhai_base::leaves::due::end_due;
 use rhai_base::{Frame, ParseSettings};
-use rhai_grammar::{Closing, ParseResult};
+use rhai_expressions as expressions;
+use rhai_grammar::{Closing, Construct, ParseResult};
+use rhai_leaves::due::end_due;
 use rhai_lower::{Expr, Stmt};
+use rhai_readers::{Config, LentReaders, Shared, nested};
+use rhai_statements as statements;
 use rhai_trees::Chain;
 
 // Readers, each a function that is lent.
 #[derive(Drop)]
-struct Lent<E, S> {
+struct Lent<E, S, C, B> {
     chain: E,
     stmt: S,
+    construct: C,
+    inside: B,
 }
 
-impl<E, S> LentReaders for Lent<E, S>
+// All of them.
+macro_rules! lent {
+    () => {
+        Lent {
+            chain: parse_chain,
+            stmt: parse_stmt,
+            construct: parse_construct,
+            inside: parse_block_inside,
+        }
+    };
+}
+
+impl<E, S, C, B> LentReaders for Lent<E, S, C, B>
 where
-    E: Fn(&Engine, &mut Shared<'_>, &Frame<'_>, ParseSettings) -> ParseResult<Chain>,
-    S: Fn(&Engine, &mut Shared<'_>, &mut Frame<'_>, ParseSettings) -> ParseResult<Stmt>,
+    E: Fn(&Config, &mut Shared<'_>, &Frame<'_>, ParseSettings) -> ParseResult<Chain>,
+    S: Fn(&Config, &mut Shared<'_>, &mut Frame<'_>, ParseSettings) -> ParseResult<Stmt>,
+    C: Fn(&Config, &mut Shared<'_>, &Frame<'_>, ParseSettings, Construct) -> ParseResult<Stmt>,
+    B: Fn(&Config, &mut Shared<'_>, &Frame<'_>, ParseSettings) -> ParseResult<Vec<Stmt>>,
 {
     ghost lent = { λ s n.
         ((engine : _) (shared : _) (frame : _) (settings : _)
@@ -49,11 +64,21 @@ where
         (with_live statement_view after_frame.now) shared.now result after.now
         × (SameSurroundings frame.now after_frame.now
         × IfOk result (λ s. ends_itself (statement_view s) ≡ true
-        → left (state_of after.now).cursor.tokens + 1 ≤ left (state_of shared.now).cursor.tokens)))) };
+        → left (state_of after.now).cursor.tokens + 1 ≤ left (state_of shared.now).cursor.tokens))))
+        × ((engine : _) (shared : _) (frame : _) (settings : _) (kind : _)
+        → need (construct kind engine.now frame.now settings) (state_of shared.now) ≡ n
+        → C.pre s.construct engine shared frame settings kind
+        × ((result : _) (after : _) → C.post s.construct engine shared frame settings kind result after
+        → NestsAs engine.now frame.now settings 5 (construct kind) statement_view shared.now result after.now))
+        × ((engine : _) (shared : _) (frame : _) (settings : _)
+        → need (inside engine.now frame.now settings) (state_of shared.now) ≡ n
+        → B.pre s.inside engine shared frame settings
+        × ((result : _) (after : _) → B.post s.inside engine shared frame settings result after
+        → NestsAs engine.now frame.now settings 3 inside statements_of shared.now result after.now)) };
 
     fn parse_chain(
         &self,
-        engine: &Engine,
+        engine: &Config,
         shared: &mut Shared<'_>,
         frame: &Frame<'_>,
         settings: ParseSettings,
@@ -64,7 +89,7 @@ where
     #[inline(always)]
     fn parse_expr(
         &self,
-        engine: &Engine,
+        engine: &Config,
         shared: &mut Shared<'_>,
         frame: &Frame<'_>,
         settings: ParseSettings,
@@ -77,12 +102,33 @@ where
 
     fn parse_stmt(
         &self,
-        engine: &Engine,
+        engine: &Config,
         shared: &mut Shared<'_>,
         frame: &mut Frame<'_>,
         settings: ParseSettings,
     ) -> ParseResult<Stmt> {
         (self.stmt)(engine, shared, frame, settings)
+    }
+
+    fn parse_construct(
+        &self,
+        engine: &Config,
+        shared: &mut Shared<'_>,
+        frame: &Frame<'_>,
+        settings: ParseSettings,
+        kind: Construct,
+    ) -> ParseResult<Stmt> {
+        (self.construct)(engine, shared, frame, settings, kind)
+    }
+
+    fn parse_block_inside(
+        &self,
+        engine: &Config,
+        shared: &mut Shared<'_>,
+        frame: &Frame<'_>,
+        settings: ParseSettings,
+    ) -> ParseResult<Vec<Stmt>> {
+        (self.inside)(engine, shared, frame, settings)
     }
 }
 
@@ -90,18 +136,15 @@ where
 #[tactic(auto, using(rhai_reading::proofs::Steps::nested_so))]
 #[cycle(parser)]
 fn parse_chain(
-    engine: &Engine,
+    engine: &Config,
     shared: &mut Shared<'_>,
     frame: &Frame<'_>,
     settings: ParseSettings,
 ) -> ParseResult<Chain>
     ensures { NestsAs engine.now frame.now settings 1 expression chain_view shared.old result shared.new }
 {
-    let readers = Lent {
-        chain: parse_chain,
-        stmt: parse_stmt,
-    };
-    let reader = Reader { engine, readers };
+    let readers = lent!();
+    let reader = expressions::Reader { engine, readers };
     nested!(shared, reader.parse_chain(shared, frame, settings))
 }
 
@@ -109,7 +152,7 @@ fn parse_chain(
 #[tactic(auto, using(rhai_reading::proofs::Steps::nested_so))]
 #[cycle(parser)]
 fn parse_stmt(
-    engine: &Engine,
+    engine: &Config,
     shared: &mut Shared<'_>,
     frame: &mut Frame<'_>,
     settings: ParseSettings,
@@ -120,18 +163,51 @@ fn parse_stmt(
     ensures takes { IfOk result (λ s. ends_itself (statement_view s) ≡ true
         → left (state_of shared.new).cursor.tokens + 1 ≤ left (state_of shared.old).cursor.tokens) }
 {
-    let readers = Lent {
-        chain: parse_chain,
-        stmt: parse_stmt,
-    };
-    let reader = Reader { engine, readers };
+    let readers = lent!();
+    let reader = statements::Reader { engine, readers };
     nested!(shared, reader.parse_stmt(shared, frame, settings))
 }
 
+/// Reads a construct of this kind after its first token, where the settings stand.
+#[tactic(auto, using(rhai_reading::proofs::Steps::nested_so))]
+#[cycle(parser)]
+fn parse_construct(
+    engine: &Config,
+    shared: &mut Shared<'_>,
+    frame: &Frame<'_>,
+    settings: ParseSettings,
+    kind: Construct,
+) -> ParseResult<Stmt>
+    ensures { NestsAs engine.now frame.now settings 5 (construct kind) statement_view shared.old result shared.new }
+{
+    let readers = lent!();
+    let reader = statements::Reader { engine, readers };
+    nested!(
+        shared,
+        reader.parse_construct(shared, frame, settings, kind)
+    )
+}
+
+/// Reads the statements of a block up to its `}`, which stays. Its definitions end with it.
+#[tactic(auto, using(rhai_reading::proofs::Steps::nested_so))]
+#[cycle(parser)]
+fn parse_block_inside(
+    engine: &Config,
+    shared: &mut Shared<'_>,
+    frame: &Frame<'_>,
+    settings: ParseSettings,
+) -> ParseResult<Vec<Stmt>>
+    ensures { NestsAs engine.now frame.now settings 3 inside statements_of shared.old result shared.new }
+{
+    let readers = lent!();
+    let reader = statements::Reader { engine, readers };
+    nested!(shared, reader.parse_block_inside(shared, frame, settings))
+}
+
 /// Reads an expression that the end mark follows.
-#[tactic(auto, using(rhai_reading::proofs::Steps::step_whole, crate::proofs::Readers::calls_of_readers))]
+#[tactic(auto, using(rhai_reading::proofs::Steps::step_whole, rhai_readers::proofs::Readers::calls_of_readers))]
 pub(crate) fn parse_whole_expr(
-    engine: &Engine,
+    engine: &Config,
     shared: &mut Shared<'_>,
     frame: &Frame<'_>,
     settings: ParseSettings,
@@ -147,7 +223,7 @@ pub(crate) fn parse_whole_expr(
 /// Reads the statements of a list, up to the token that closes it, which stays. The definitions among them are made in
 /// the frame.
 pub(crate) fn parse_statements(
-    engine: &Engine,
+    engine: &Config,
     shared: &mut Shared<'_>,
     frame: &mut Frame<'_>,
     settings: ParseSettings,
@@ -157,10 +233,7 @@ pub(crate) fn parse_statements(
         (statements closing no_statements) (with_live statements_of frame.new) shared.old result shared.new }
     ensures place { SameSurroundings frame.old frame.new }
 {
-    let readers = Lent {
-        chain: parse_chain,
-        stmt: parse_stmt,
-    };
-    let reader = Reader { engine, readers };
+    let readers = lent!();
+    let reader = statements::Reader { engine, readers };
     reader.parse_statements(shared, frame, settings, closing)
 }

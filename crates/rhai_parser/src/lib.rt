@@ -1,16 +1,6 @@
 //! The parser: from a stream of tokens to the tree of a script.
 #![tactic(auto)]
 
-/// Calls a reader that counts: it is entered before, and left after. No `?` may stand inside.
-macro_rules! nested {
-    ($shared:ident, $read:expr) => {{
-        $shared.enter();
-        let read = $read;
-        $shared.leave();
-        read
-    }};
-}
-
 /// Takes a state with these fields apart, and puts it together. As a parameter it cannot be proved to be passed on.
 macro_rules! rebuild {
     ($state:ident: $($field:ident),*) => {
@@ -19,24 +9,12 @@ macro_rules! rebuild {
     };
 }
 
-mod blocks;
-mod chain;
-mod construct;
 pub mod engine;
-mod expr;
 mod expression;
-mod function;
 pub mod laws;
 mod lending;
-mod lent;
 mod library;
-mod parameters;
-mod primary;
-mod reader;
 mod script;
-mod shared;
-mod stmt;
-mod switch;
 
 pub use engine::Engine;
 pub use rhai_base::{

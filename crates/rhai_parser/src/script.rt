@@ -18,16 +18,15 @@ ghost use Rattle.rhai_base.specs.Counts.{counts_of, none_yet, with_entered};
 ghost use Rattle.rhai_base.specs.States.{IsFresh};
 ghost use Rattle.rhai_lower.specs.Optimizer.{unoptimized};
 ghost use Rattle.rhai_parser.specs.Nesting.{KeepsCounts, NestsAsWritten, StaysWithin};
-ghost use Rattle.rhai_parser.specs.Engines.{script_settings};
-ghost use Rattle.rhai_parser.specs.Frames.{context_of};
-ghost use Rattle.rhai_parser.specs.Readers.{nesting_of};
-ghost use Rattle.rhai_parser.specs.Heights.{Holds};
+ghost use Rattle.rhai_readers.specs.Engines.{script_settings};
+ghost use Rattle.rhai_readers.specs.Frames.{context_of};
+ghost use Rattle.rhai_readers.specs.Readers.{nesting_of};
+ghost use Rattle.rhai_readers.specs.Heights.{Holds};
 ghost use Rattle.rhai_parser.specs.Starts.{KeepsOrder, KeepsState, live_in, starts_in};
 
 use crate::engine::Engine;
 use crate::lending::parse_statements;
 use crate::library::take_library;
-use crate::shared::Shared;
 use rhai_base::{
     FnLib, Frame, Library, ParseCounts, ParseSettingFlags, ParseSettings, ParseState, functions,
 };
@@ -36,6 +35,7 @@ use rhai_lower::{
     AST, NamedList, OptimizationLevel, Optimizer, Position, Scope, ScriptFuncDef, Stmt,
     StmtBlockContainer, StringsInterner, TokenStream, Unoptimized,
 };
+use rhai_readers::Shared;
 use std::mem;
 use std::rc::{Rc, RcStr};
 
@@ -96,7 +96,7 @@ impl Engine {
             counts: *counts,
         };
         let statements = parse_statements(
-            self,
+            &self.config,
             &mut shared,
             &mut frame,
             settings,

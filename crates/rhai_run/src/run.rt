@@ -3,11 +3,9 @@
 ghost use Rattle.std.specs.Prelude.{All, IfOk, IsTrue};
 ghost use Rattle.rhai_lower.specs.Entries.{may_be_delivered};
 
-use crate::lines::read_lines;
-use crate::list::{ListError, TokenList, read_list};
-use crate::refused::Refused;
 use crate::words::{Entry, Limits, read_words};
 use bitflags::Flags;
+use rhai_formats::{ListError, Refused, TokenList, read_lines, read_list};
 use rhai_parser::{
     AST, Engine, FnLib, LangOptions, OptimizationLevel, ParseError, ParseResult, ParseState,
     TokenStream, TokenizerControl,

@@ -2,7 +2,7 @@
 
 ghost use Rattle.std.specs.Prelude.{◌≡◌, ◌↔◌, IsSome, IsNone};
 
-use crate::number::decimal;
+use rhai_formats::decimal;
 
 /// What the list of tokens is parsed as.
 #[derive(Clone, Copy, PartialEq, Debug)]

@@ -20,7 +20,7 @@ use Rattle.rhai_grammar.specs.declared.error.ParseError.{ParseError}
 use Rattle.rhai_reading.specs.Reading.{Goal, Script}
 use Rattle.rhai_grammar.specs.Promises.{ReadsWhole, Written}
 use Rattle.rhai_productions.proofs.Positions.{refusals_stand_at_tokens}
-use Rattle.rhai_parser.specs.Engines.{EngineValue}
+use Rattle.rhai_readers.specs.Engines.{EngineValue}
 use Rattle.rhai_parser.specs.Nesting.{NestsAsWritten}
 use Rattle.rhai_parser.specs.Scripts.{Constants, IsScript, ReadsScript}
 use Rattle.rhai_tokenizer.specs.Readings.{Reads}

@@ -33,7 +33,7 @@ use Rattle.rhai_base.specs.Libraries.{library_of}
 use Rattle.rhai_base.specs.Settings.{settings_of}
 use Rattle.rhai_base.specs.States.{IsFresh}
 use Rattle.rhai_base.specs.declared.settings.ParseSettings.{ParseSettings}
-use Rattle.rhai_parser.specs.Engines.{EngineValue, expr_settings, script_settings, sizes_of}
+use Rattle.rhai_readers.specs.Engines.{EngineValue, expr_settings, script_settings, sizes_of}
 use Rattle.rhai_parser.specs.Scripts.{Constants, IsMadeOf, IsScriptOf, Makes, ReadsScript}
 use Rattle.rhai_parser.specs.Nesting.{NestsAsWritten}
 use Rattle.rhai_parser.specs.Starts.{KeepsOrder, StateValue, live_in, starts_in}

@@ -3,10 +3,10 @@
 use crate::libraries::{Functions, holds_ended};
 use crate::script::{stream_of_line, tokens_taken};
 use rhai_names::names::FnNames;
-use rhai_names::script::names_of_script;
 use rhai_parser::{
     Engine, FnLib, ParseError, ParseErrorType, ParseResult, ParseState, TokenizerControl,
 };
+use rhai_script_names::names_of_script;
 use std::alloc::{AllocError, Global};
 use std::process::Abort;
 use std::test::Fail;

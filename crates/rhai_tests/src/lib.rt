@@ -10,8 +10,6 @@ mod fn_names;
 #[cfg(test)]
 mod libraries;
 #[cfg(test)]
-mod lists;
-#[cfg(test)]
 mod long_scripts;
 #[cfg(test)]
 mod lookups;
@@ -31,5 +29,3 @@ mod readme;
 mod script;
 #[cfg(test)]
 mod states;
-#[cfg(test)]
-mod texts;

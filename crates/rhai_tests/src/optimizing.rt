@@ -2,25 +2,12 @@
 //! the one that is `.._refused` holds however memory is refused.
 
 use crate::libraries::{Functions, holds_ended};
-use crate::script::{printed_refusal, stream_of_line, tokens_taken};
-use rhai_parser::{
-    AST, Engine, FnLib, OptimizationLevel, ParseResult, ParseState, TokenizerControl,
-};
-use rhai_run::accepted;
+use crate::script::{stream_of_line, tokens_taken};
+use rhai_formats::answered;
+use rhai_parser::{AST, Engine, FnLib, OptimizationLevel, ParseState, TokenizerControl};
 use std::alloc::{AllocError, Global};
 use std::process::Abort;
 use std::test::Fail;
-
-/// What the program prints of an answer. Where memory ran out, so is the result.
-pub(crate) fn printed(alloc: Global, answer: ParseResult<AST>) -> Result<String, AllocError> {
-    match answer {
-        Ok(script) => accepted(alloc, &script),
-        Err(error) => {
-            let refusal = printed_refusal(alloc, &error)?;
-            format!(in alloc; "refused {refusal}")
-        }
-    }
-}
 
 // The tree of a line, not optimized.
 fn read_plainly(rt: &impl Abort, alloc: Global, line: &str) -> Result<String, AllocError> {
@@ -32,7 +19,7 @@ fn read_plainly(rt: &impl Abort, alloc: Global, line: &str) -> Result<String, Al
         statements,
         functions,
     });
-    printed(alloc, script)
+    answered(alloc, script)
 }
 
 // Wants the answer to a line at this level to be that without the optimizer, which begins with `wanted`, and in the
@@ -49,7 +36,7 @@ fn test_parse(
     let answer = Engine::new(alloc).parse(state, level);
     let taken = tokens_taken(&mut input, line);
     assert!(rt; holds_ended(&lib, functions, taken), "{line}");
-    let answer = printed(alloc, answer)?;
+    let answer = answered(alloc, answer)?;
     assert!(rt; lib.len() == functions.len(), "{line}");
     assert!(rt; answer.as_str().starts_with(wanted), "{answer}");
     let plain = read_plainly(rt, alloc, line)?;

@@ -1,4 +1,4 @@
-//! The code of README.md and docs/ARCHITECTURE.md, word for word (tests/cases.sh compares them).
+//! The code of docs/ARCHITECTURE.md, word for word (tests/cases.sh compares them).
 
 ghost use Rattle.std.specs.Prelude.{All, IsTrue};
 ghost use Rattle.rhai_lower.specs.Entries.{may_be_delivered};
@@ -8,29 +8,8 @@ use rhai_parser::{
     AST, Engine, Entry, FnLib, OptimizationLevel, ParseResult, ParseState, Position, TokenStream,
     TokenizerControl,
 };
-use rhai_script::{Limits, compile};
 use std::alloc::Global;
 use std::test::Fail;
-
-fn parse(alloc: Global, text: &str) -> ParseResult<AST> {
-    let mut engine = Engine::new(alloc);
-    engine.set_max_expr_depth(32);
-    compile(alloc, &engine, text, Limits::NONE)
-}
-
-#[test]
-fn the_code_of_the_readme(rt: HostRuntime) -> Result<(), Fail> {
-    let alloc = rt.alloc();
-    let script = "fn f(x) { x * 2 } let y = f(1); y";
-    check(&rt, alloc, parse(alloc, script), "accepted")?;
-    check(
-        &rt,
-        alloc,
-        parse(alloc, "let 5"),
-        "E13 1:5 VariableExpected",
-    )?;
-    Ok(())
-}
 
 fn parse_tokens(alloc: Global, entries: Vec<Entry>, end: Position) -> ParseResult<AST>
     requires { All (λ e. IsTrue (may_be_delivered e)) entries.items }

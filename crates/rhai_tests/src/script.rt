@@ -1,12 +1,11 @@
 //! Scripts as the tests write them: tokens in one line, with one blank between two. Each stands at its column of line
 //! 1, and the end mark at no position.
 
+use rhai_formats::refusal;
 use rhai_parser::{
-    AST, Engine, Entry, FnLib, LangOptions, OptimizationLevel, ParseError, ParseErrorType,
-    ParseResult, ParseSettingFlags, ParseSettings, ParseState, Position, Scope, Token, TokenStream,
-    TokenizerControl, nest_peak,
+    AST, Engine, Entry, FnLib, LangOptions, OptimizationLevel, ParseResult, ParseSettingFlags,
+    ParseSettings, ParseState, Position, Scope, Token, TokenStream, TokenizerControl, nest_peak,
 };
-use rhai_run::Refused;
 use std::alloc::{AllocError, Global};
 use std::process::Abort;
 use std::rc::RcStr;
@@ -182,14 +181,6 @@ impl Change {
     }
 }
 
-/// What the program prints of an error after the word `refused`. Where memory ran out, so is the result.
-pub(crate) fn printed_refusal(alloc: Global, error: &ParseError) -> Result<String, AllocError> {
-    if error.0 == ParseErrorType::OutOfMemory {
-        return Err(AllocError);
-    }
-    format!(in alloc; "{}", Refused(error))
-}
-
 /// Compares an answer with what the program prints of it: `accepted`, or what stands after the word `refused`. Where
 /// memory ran out, the answer is want of memory, and so is the result.
 pub(crate) fn check<T: Drop>(
@@ -200,7 +191,7 @@ pub(crate) fn check<T: Drop>(
 ) -> Result<(), AllocError> {
     let printed = match answer {
         Ok(_) => String::from_str(alloc, "accepted")?,
-        Err(error) => printed_refusal(alloc, &error)?,
+        Err(error) => refusal(alloc, &error)?,
     };
     assert!(rt;
         printed.as_str() == wanted,

@@ -2,10 +2,5 @@ pub mod SignLemmas
 pub mod OperatorLemmas
 pub mod ChainLemmas
 pub mod LinkedLemmas
-pub mod CaseKeyLemmas
-pub mod DigestLemmas
-pub mod CaseIndexLemmas
-pub mod CaseSearchLemmas
 pub mod StatementLemmas
 pub mod StringLemmas
-pub mod SwitchLemmas

@@ -1,43 +1,31 @@
 //! Operations on trees, which do not use the stream. On trees of expressions: signs, operators and links with their
 //! operands, and tests of operands, of guards and of what is assigned to. On trees that hold statements: statements and
-//! their blocks, constructs, arms of `switch` with their cases, and segments of interpolated strings.
+//! their blocks, constructs, and segments of interpolated strings.
 #![tactic(auto)]
 
-pub mod arms;
 mod call;
-mod capacity;
-pub mod case_index;
-mod case_search;
-pub mod case_value;
 pub mod chain;
 pub mod construct;
-pub mod digest;
 pub mod guard;
 pub mod kind;
 pub mod link;
-pub mod literal;
 pub mod operator;
 pub mod sign;
 pub mod statement;
 pub mod strings;
-pub mod switch;
 pub mod target;
 
-pub use arms::Arms;
-pub use case_value::{IntegerRange, range_of};
 pub use chain::{indexed_operand, test_index, test_links};
 pub use construct::{make_do, make_for, make_if, make_try, make_while};
 pub use guard::{test_guard, test_iterated};
 pub use kind::{index_fault, is_constant, not_boolean, not_iterable};
 pub use link::{Chain, Link, LinkKind};
-pub use literal::is_literal_value;
 pub use operator::make_binary;
 pub use sign::make_unary;
 pub use statement::{
-    ends_itself, make_assignment, make_block, make_block_statement, make_block_value, make_break,
-    make_continue, make_definition, make_export, make_expression, make_import, make_jump,
-    make_statement_value, no_block, push_statement,
+    ends_itself, is_empty, make_assignment, make_block, make_block_statement, make_block_value,
+    make_break, make_continue, make_definition, make_export, make_expression, make_import,
+    make_jump, make_statement_value, no_block, push_statement,
 };
 pub use strings::{push_segment, push_text};
-pub use switch::{ends_arm, make_switch, new_arms, no_guard, push_arm, push_default, test_cases};
 pub use target::{slot_of, test_target};

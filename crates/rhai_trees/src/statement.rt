@@ -37,7 +37,7 @@ pub fn ends_itself(statement: &Stmt) -> bool
 }
 
 /// Whether a statement is empty.
-pub(crate) fn is_empty(statement: &Stmt) -> bool
+pub fn is_empty(statement: &Stmt) -> bool
     ensures { result ≡ is_empty (statement_view statement.now) }
 {
     match statement {

@@ -1,27 +1,53 @@
--- What both of these functions lend, where less is left to do than at their own call.
+-- What these functions lend, where less is left to do than at their own call.
 use Rattle.std.proofs.Common.{ℕ, ◌≡◌, ◌<◌, ◌∙◌, ap, arith}
 use Rattle.rhai_reading.specs.Running.{need}
-use Rattle.rhai_parser.specs.Readers.{expression, statement}
+use Rattle.rhai_readers.specs.Readers.{construct, expression, inside, statement}
 use Rattle.rhai_parser.proofs.lending.+parser.Goals as goal
 
 -- A need that falls below another is below what that other is measured by.
 falls : {need left bound measure : ℕ} → need ≡ left → left < bound → bound ≡ measure → need < measure
 falls is below same = omega (arith, is, below, same)
 
-pub parse_chain-parse_chain-read-requires : goal.parse_chain-parse_chain-read-requires
-parse_chain-parse_chain-read-requires t c =
-    let same = ap (need (expression c.args.engine.now c.args.frame.now c.args.settings)) c.enter.ensures.enters ∙ c.decreases in record {
+pub parse_chain-parse_chain-requires : goal.parse_chain-parse_chain-requires
+parse_chain-parse_chain-requires t c =
+    let same = ap (need (expression c.args.engine.now c.args.frame.now c.args.settings)) c.nested-enter.ensures.enters ∙ c.decreases in record {
       lent = λ m below. (
         λ engine shared frame settings is. ((falls is below same, tt), λ result after told. told.1),
         λ engine shared frame settings is. ((falls is below same, tt), λ result after after_frame told. told.1),
+        λ engine shared frame settings kind is. ((falls is below same, tt), λ result after told. told.2),
+        λ engine shared frame settings is. ((falls is below same, tt), λ result after told. told.1),
       );
     }
 
-pub parse_stmt-parse_stmt-read-requires : goal.parse_stmt-parse_stmt-read-requires
-parse_stmt-parse_stmt-read-requires t c =
-    let same = ap (need (statement c.args.engine.now c.args.frame.now c.args.settings)) c.enter.ensures.enters ∙ c.decreases in record {
+pub parse_stmt-parse_stmt-requires : goal.parse_stmt-parse_stmt-requires
+parse_stmt-parse_stmt-requires t c =
+    let same = ap (need (statement c.args.engine.now c.args.frame.now c.args.settings)) c.nested-enter.ensures.enters ∙ c.decreases in record {
       lent = λ m below. (
         λ engine shared frame settings is. ((falls is below same, tt), λ result after told. told.1),
         λ engine shared frame settings is. ((falls is below same, tt), λ result after after_frame told. told.1),
+        λ engine shared frame settings kind is. ((falls is below same, tt), λ result after told. told.2),
+        λ engine shared frame settings is. ((falls is below same, tt), λ result after told. told.1),
+      );
+    }
+
+pub parse_construct-parse_construct-requires : goal.parse_construct-parse_construct-requires
+parse_construct-parse_construct-requires t c =
+    let same = ap (need (construct c.args.kind c.args.engine.now c.args.frame.now c.args.settings)) c.nested-enter.ensures.enters ∙ c.decreases in record {
+      lent = λ m below. (
+        λ engine shared frame settings is. ((falls is below same, tt), λ result after told. told.1),
+        λ engine shared frame settings is. ((falls is below same, tt), λ result after after_frame told. told.1),
+        λ engine shared frame settings kind is. ((falls is below same, tt), λ result after told. told.2),
+        λ engine shared frame settings is. ((falls is below same, tt), λ result after told. told.1),
+      );
+    }
+
+pub parse_block_inside-parse_block_inside-requires : goal.parse_block_inside-parse_block_inside-requires
+parse_block_inside-parse_block_inside-requires t c =
+    let same = ap (need (inside c.args.engine.now c.args.frame.now c.args.settings)) c.nested-enter.ensures.enters ∙ c.decreases in record {
+      lent = λ m below. (
+        λ engine shared frame settings is. ((falls is below same, tt), λ result after told. told.1),
+        λ engine shared frame settings is. ((falls is below same, tt), λ result after after_frame told. told.1),
+        λ engine shared frame settings kind is. ((falls is below same, tt), λ result after told. told.2),
+        λ engine shared frame settings is. ((falls is below same, tt), λ result after told. told.1),
       );
     }

@@ -1,5 +1,5 @@
 use Rattle.rhai_reading.specs.Running.{need}
-use Rattle.rhai_parser.specs.Readers.{expression, state_of, statement}
+use Rattle.rhai_readers.specs.Readers.{construct, expression, inside, state_of, statement}
 use Rattle.rhai_parser.proofs.lending.+parser.Given as goal
 
 abbrev pub decreases-parse_chain : goal.decreases-parse_chain
@@ -7,3 +7,9 @@ decreases-parse_chain l = need (expression l.engine.now l.frame.now l.settings) 
 
 abbrev pub decreases-parse_stmt : goal.decreases-parse_stmt
 decreases-parse_stmt l = need (statement l.engine.now l.frame.now l.settings) (state_of l.shared.now)
+
+abbrev pub decreases-parse_construct : goal.decreases-parse_construct
+decreases-parse_construct l = need (construct l.kind l.engine.now l.frame.now l.settings) (state_of l.shared.now)
+
+abbrev pub decreases-parse_block_inside : goal.decreases-parse_block_inside
+decreases-parse_block_inside l = need (inside l.engine.now l.frame.now l.settings) (state_of l.shared.now)

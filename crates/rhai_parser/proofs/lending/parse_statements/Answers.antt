@@ -5,5 +5,7 @@ parse_statements-requires c = record {
   lent = λ m below. (
     λ engine shared frame settings is. (tt, λ result after told. told.1),
     λ engine shared frame settings is. (tt, λ result after after_frame told. told.1),
+    λ engine shared frame settings kind is. (tt, λ result after told. told.2),
+    λ engine shared frame settings is. (tt, λ result after told. told.1),
   );
 }

@@ -8,8 +8,8 @@ use Rattle.rhai_reading.specs.Reading.{Script}
 use Rattle.rhai_reading.specs.Running.{Done, Progress, Refused, result_of}
 use Rattle.rhai_base.specs.Counts.{counts_of}
 use Rattle.rhai_base.specs.Libraries.{library_of}
-use Rattle.rhai_parser.specs.Frames.{context_of}
-use Rattle.rhai_parser.specs.Readers.{nesting_of}
+use Rattle.rhai_readers.specs.Frames.{context_of}
+use Rattle.rhai_readers.specs.Readers.{nesting_of}
 use Rattle.rhai_parser.proofs.NestLemmas.{if_ok, nests_written, seen_of}
 use Rattle.rhai_parser.proofs.PromiseLemmas.{Entries, begins_read, begins_same, script_done, script_fails, has_read_done, has_read_fails, reads_none}
 use Rattle.rhai_productions.proofs.Main.{script_entry}

@@ -1,0 +1,4 @@
+pub mod Arms
+pub mod Digests
+pub mod CaseKeys
+pub mod Switches

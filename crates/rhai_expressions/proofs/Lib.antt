@@ -1,0 +1,9 @@
+pub mod ExprLemmas
+pub mod LookedLemmas
+pub mod ExprReaders
+pub mod RunLemmas
+pub mod PrimaryLemmas
+pub mod ClosureLemmas
+pub mod KeyLemmas
+pub mod PrimaryReaders
+pub mod OperandLemmas

@@ -1,0 +1,137 @@
+-- Reserved words, and names with their uses. This is what the reading program does where the code asks a function
+-- outside of the readers.
+use Rattle.std.proofs.Common.{◌≡◌, Bool, List, None, Result, true, false, ◌&&◌, Ok, Err, refl, sym, ap, ◌∙◌, if◌then◌else◌}
+use Rattle.rhai_lower.specs.Texts.{Text}
+use Rattle.rhai_lower.specs.Lexemes.{Lexeme}
+use Rattle.rhai_lower.specs.Nodes.{Node, Properties, this}
+use Rattle.rhai_lower.specs.declared.position.Position.{Position}
+use Rattle.rhai_grammar.specs.Causes.{Refusal, Reserved, VariableUndefined, out_of_memory, refusal, DuplicatedProperty}
+use Rattle.rhai_grammar.specs.Cursors.{Cursor}
+use Rattle.rhai_grammar.specs.Delivered.{is_memory}
+use Rattle.rhai_grammar.specs.Contexts.{Context, Known, Live}
+use Rattle.rhai_grammar.specs.Beginnings.{calls, excludes_use, is_sign, is_this, is_value, may_be_called}
+use Rattle.rhai_grammar.specs.declared.role.Beginning.{Beginning}
+use Rattle.rhai_grammar.specs.Settings.{Settings, is_in_function}
+use Rattle.rhai_grammar.specs.Libraries.{Library}
+use Rattle.rhai_grammar.specs.Trees.{name_tree, variable_of}
+use Rattle.rhai_lower.specs.Slots.{SlotValue}
+use Rattle.rhai_trees.proofs.LinkedLemmas.{given_where, this_value, variable_value}
+use Rattle.rhai_trees.specs.Linked.{is_linked}
+use Rattle.rhai_grammar.specs.declared.role.Beginning.TheVariants as begin
+use Rattle.rhai_grammar.specs.Uses.{Use, noted}
+use Rattle.rhai_reading.specs.Reading.{Ret, Fail, Know, Note, Primary, name_at, word_at, Peek, NextKey, match_token, key_on, room_at}
+use Rattle.rhai_reading.specs.Running as R
+use Rattle.rhai_reading.specs.Running.{Caller, Progress, next_item, exec, guarded, after_peek, result_of, after_take, with_captured}
+use Rattle.rhai_reading.proofs.Steps.{step_next_key}
+use Rattle.rhai_base.specs.Words.{name_result, no_this, word_result}
+use Rattle.rhai_grammar.specs.declared.due.DueToken.TheVariants as due
+use Rattle.rhai_grammar.specs.Literals.{KeyRole, FieldsEnd, AKey, NoKey, has_key}
+use Rattle.rhai_grammar.specs.Verdicts.{next_key}
+use Rattle.rhai_expressions.specs.MapKeys.{KeyRefused}
+use Rattle.rhai_reading.proofs.Outcomes.{answered, exec_answered, outcome}
+use Rattle.rhai_reading.proofs.WordSteps.{Worded, worded}
+
+-- ---- values
+
+pub value_begins : (b : Beginning) → is_value b ≡ true → b ≡ begin.Value
+value_begins begin.Value e = refl
+value_begins _ e = absurd cc
+
+pub value_unsigned : (b : Beginning) → is_value b ≡ true → is_sign b ≡ false
+value_unsigned begin.Value e = refl
+value_unsigned _ e = absurd cc
+
+-- ---- reserved words
+
+-- a choice between answers, as a program
+word_chosen : (b c d : Bool) (x y : Node) (e f : Refusal) → (if b then Ret x else if c then (if d then Ret y else Fail e) else Fail f) ≡ answered (if b then Ok x else if c then (if d then Ok y else Err e) else Err f)
+word_chosen true c d x y e f = refl
+word_chosen false true true x y e f = refl
+word_chosen false true false x y e f = refl
+word_chosen false false d x y e f = refl
+
+word_answers : (c : Context) (word : Text) (at : Position) (l : Lexeme) (p : Position) → word_at c word at l p ≡ answered (word_result c.settings word (calls l) at)
+word_answers c word at l p =
+    word_chosen (may_be_called word && calls l) (is_this word) (is_in_function c.settings) _ _ _ _
+
+pub word_outcome : (call : Caller) (c : Context) (word : Text) (at : Position) (l : Lexeme) (p : Position) (t : Progress) → exec call (word_at c word at l p) t ≡ outcome (word_result c.settings word (calls l) at) t
+word_outcome call c word at l p t = ap (λ q. exec call q t) (word_answers c word at l p) ∙ exec_answered call (word_result c.settings word (calls l) at) t
+
+pub worded_outcome : (c : Context) (w : Live) {word : Text} {at : Position} {called : Bool} {s s1 s2 t : Progress}
+    → Worded begin.Word calls word at called s s1 s2 t
+    → result_of (Primary c w) s ≡ outcome (word_result c.settings word called at) t
+worded_outcome c w {word} {at} {called} {s} {s1} {s2} {t} h =
+    worded c w (word_at c) (λ l p. refl) h
+    ∙ word_outcome (guarded (Primary c w) s) c word at (next_item s2).lexeme (next_item s2).at t
+    ∙ ap (λ b. outcome (word_result c.settings word b at) t) (sym h.is_so)
+
+-- ---- names
+
+-- what the code answers to a name
+abbrev pub answer : Bool → Node → Refusal → Result Node Refusal
+answer b x e = if b then Ok x else Err e
+
+-- a name that is used is noted, where the code answers
+pub noted_name : (call : Caller) (b captures : Bool) (u : Use) (x : Node) (e : Refusal) (s t : Progress) (y : Node)
+    → answer b x e ≡ Ok y → t ≡ with_captured (noted captures u s.captured) s
+    → exec call (if b then Note captures u (Ret x) else Fail e) s ≡ R.Done y t
+noted_name call true captures u x e s t y is left =
+    let h : answer true x e ≡ Ok y = is in
+    let same : x ≡ y = cc in
+    ap (λ n. R.Done n (with_captured (noted captures u s.captured) s)) same ∙ ap (R.Done y) (sym left)
+noted_name call false captures u x e s t y is left =
+    let h : answer false x e ≡ Ok y = is in absurd cc
+
+-- and where it refuses the name, it is not
+pub refused_name : (call : Caller) (b captures : Bool) (u : Use) (x : Node) (e f : Refusal) (s : Progress)
+    → answer b x e ≡ Err f
+    → exec call (if b then Note captures u (Ret x) else Fail e) s ≡ R.Refused f s
+refused_name call true captures u x e f s is =
+    let h : answer true x e ≡ Err f = is in absurd cc
+refused_name call false captures u x e f s is =
+    let h : answer false x e ≡ Err f = is in
+    let same : e ≡ f = cc in ap (λ r. R.Refused r s) same
+
+-- a name and a word are no chains
+pub name_value : (known : Known) (slots : List SlotValue) (l : Library) (strict excluded : Bool) (name : Text) (at : Position) (z : Node) → name_result known slots l strict excluded name at ≡ Ok z → is_linked z ≡ false
+name_value known slots l strict excluded name at z is =
+    ap is_linked (sym (given_where _ (name_tree slots excluded name at) z (refusal (VariableUndefined name) at) is)) ∙ variable_value _ at
+
+pub word_value : (c : Settings) (word : Text) (called : Bool) (at : Position) (z : Node) → word_result c word called at ≡ Ok z → is_linked z ≡ false
+word_value c word called at z is = by_choice (may_be_called word && called) (is_this word) (is_in_function c) is
+  where
+    by_choice : (a b d : Bool) → (if a then Ok (variable_of None word at) else if b then (if d then Ok (this at) else Err (no_this word at)) else Err (refusal (Reserved word) at)) ≡ Ok z → is_linked z ≡ false
+    by_choice true b d h = ap is_linked (sym (given_where true (variable_of None word at) z (refusal (Reserved word) at) h)) ∙ variable_value _ at
+    by_choice false true d h = ap is_linked (sym (given_where d (this at) z (no_this word at) h)) ∙ this_value at
+    by_choice false false d h = absurd cc
+
+-- what follows the look after a name
+pub named : (c : Context) (w : Live) {name : Text} {at : Position} {excluded : Bool} {s s1 s2 t : Progress}
+    → Worded begin.Name excludes_use name at excluded s s1 s2 t
+    → result_of (Primary c w) s ≡ exec (guarded (Primary c w) s) (name_at c w name at (next_item s2).lexeme t.library) t
+named c w h = worded c w (λ x p l q. Know (name_at c w x p l)) (λ l p. refl) h
+
+-- ---- keys
+
+-- the state with this cursor
+abbrev at : Progress → Cursor → Progress
+at s t = record s { cursor = t }
+
+refused_at : (call : Caller) (c : Context) (before : Properties) (s : Progress) (place : KeyRole) (e : Refusal) (t : Cursor) → is_memory (next_item s).lexeme ≡ false → KeyRefused before s.cursor place e t → exec call (key_on c before (next_item s).at place) (after_peek s) ≡ R.Refused e (at s t)
+refused_at call c before s FieldsEnd e t readable h = absurd h
+refused_at call c before s (NoKey why) e t readable h = ap (λ d. R.Refused d (after_peek s)) (sym h.0) ∙ ap (λ u. R.Refused e (at s u)) (sym h.1)
+refused_at call c before s (AKey key) e t readable h =
+    let p = (next_item s).at in
+    let duplicated = refusal (DuplicatedProperty key) p in
+    ap (λ m. if m then R.Refused out_of_memory (after_peek (after_peek s)) else exec call (if has_key key before then Fail duplicated else match_token due.Colon (Peek (room_at c before key p))) (after_take s)) readable
+    ∙ ap (λ b. exec call (if b then Fail duplicated else match_token due.Colon (Peek (room_at c before key p))) (after_take s)) h.0
+    ∙ ap (λ d. R.Refused d (after_take s)) (sym h.1)
+    ∙ ap (λ u. R.Refused e (at s u)) (sym h.2)
+
+-- a key that is refused
+pub key_refused : (c : Context) (before : Properties) (s : Progress) (t : Cursor) (e : Refusal) → is_memory (next_item s).lexeme ≡ false → KeyRefused before s.cursor (next_key c.settings before (next_item s).lexeme) e t → result_of (NextKey c before) s ≡ R.Refused e (at s t)
+key_refused c before s t e readable h =
+    let k = NextKey c before in
+    step_next_key c before s
+    ∙ ap (λ m. if m then R.Refused out_of_memory (after_peek s) else exec (guarded k s) (key_on c before (next_item s).at (next_key c.settings before (next_item s).lexeme)) (after_peek s)) readable
+    ∙ refused_at (guarded k s) c before s (next_key c.settings before (next_item s).lexeme) e t readable h

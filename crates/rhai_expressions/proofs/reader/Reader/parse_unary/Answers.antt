@@ -1,0 +1,50 @@
+use Rattle.std.proofs.Common.{◌≡◌, ◌∙◌, Err, Ok, ap, arith, refl, sym}
+use Rattle.rhai_trees.specs.Chains.{chain_view}
+use Rattle.rhai_grammar.specs.Beginnings.{beginning}
+use Rattle.rhai_reading.specs.Reading.{Primary}
+use Rattle.rhai_reading.specs.Running.{next_item, entering, after_peek, nested, result_of}
+use Rattle.rhai_reading.specs.Running as R
+use Rattle.rhai_reading.proofs.Steps.{looked, nested_done}
+use Rattle.rhai_readers.proofs.Given.{gives_so}
+use Rattle.rhai_expressions.proofs.OperandLemmas.{operand_begun}
+use Rattle.rhai_expressions.proofs.PrimaryLemmas.{value_unsigned}
+use Rattle.rhai_readers.specs.Frames.{context_of, live_of}
+use Rattle.rhai_readers.specs.Readers.{operand, state_of}
+use Rattle.rhai_expressions.proofs.reader.Reader.parse_unary.Goals as goal
+
+pub returns-in-Ok : goal.returns-in-Ok
+returns-in-Ok g c = record {
+  goes_on = grind arith;
+  stays = grind arith;
+  reads =
+      let goal = operand c.args.self.now.engine.now c.args.frame.now c.args.settings in
+      gives_so chain_view (Ok c.in-Ok.operand) (state_of c.parse_written.new.shared)
+      (sym (looked goal _ (state_of c.args.shared.now) refl) ∙ ap (result_of goal) (grind arith)) c.in-Ok.ensures.reads;
+}
+
+pub returns-in-Err : goal.returns-in-Err
+returns-in-Err g c = record {
+  goes_on = grind arith;
+  stays = grind arith;
+  reads =
+      let goal = operand c.args.self.now.engine.now c.args.frame.now c.args.settings in
+      gives_so chain_view (Err c.in-Err.error) (state_of c.parse_written.new.shared)
+      (sym (looked goal _ (state_of c.args.shared.now) refl) ∙ ap (result_of goal) (grind arith)) c.in-Err.ensures.reads;
+}
+
+pub returns : goal.returns
+returns g c = record {
+  goes_on = grind arith;
+  stays = grind arith;
+  reads =
+      let s = state_of c.args.shared.now in
+      let t = state_of c.nested-leave.new.self in
+      let context = context_of c.args.self.now.engine.now c.args.frame.now c.args.settings in
+      let live = live_of c.args.frame.now in
+      let entered : state_of c.nested-enter.new.self ≡ entering (after_peek s) = grind arith in
+      gives_so chain_view c.parse_ends.result (state_of c.parse_ends.new.shared)
+      (operand_begun context live (chain_view c.from_value-operand.result) s t (grind arith) (value_unsigned (beginning (next_item s).lexeme) (grind arith))
+      (nested_done (result_of (Primary context live)) (after_peek s) entered (c.in_ok-value.ensures.reads context live) c.nested-leave.ensures.leaves
+      ∙ ap (λ x. R.Done x t) (sym c.from_value-operand.ensures)))
+      (c.parse_ends.ensures.reads s (grind arith));
+}

@@ -1,0 +1,41 @@
+-- How the contracts speak of a run of operators, one operator after the other.
+use Rattle.std.specs.Prelude.{◌≡◌, ℕ, Option, Some, None, if◌then◌else◌}
+use Rattle.rhai_lower.specs.Lexemes.{Lexeme, lexeme}
+use Rattle.rhai_lower.specs.Nodes.{Node}
+use Rattle.rhai_lower.specs.declared.position.Position.{Position}
+use Rattle.rhai_trees.specs.Chains.{chain_view}
+use Rattle.rhai_grammar.specs.Contexts.{Context, Live}
+use Rattle.rhai_grammar.specs.Starts.{role_after}
+use Rattle.rhai_reading.specs.Reading.{BinaryOp, Call, NextOperator, Peek, Prog, Ret, RightOperand, Take}
+use Rattle.rhai_reading.specs.Reading.{binary_on, raised}
+use Rattle.rhai_reading.specs.Running.{Progress, exec, guarded, result_of}
+use Rattle.rhai_grammar.specs.declared.filter.ExprFilter.{ExprFilter}
+use Rattle.rhai_leaves.specs.Operators.{continues}
+use Rattle.rhai_leaves.specs.declared.operators.Operator.{Operator}
+use Rattle.rhai_expressions.specs.declared.expr.runs.Side.{Side}
+
+-- how a run goes on, by the operator of it that comes next, if one does
+abbrev pub run_at : Context → Live → Position → ℕ → Node → Option Operator → Prog Node
+run_at context live at parent lhs None = Ret lhs
+run_at context live at parent lhs (Some operator) = Peek (binary_on context live at parent lhs operator.strength)
+
+-- the operator that comes next, if it goes on with a run
+abbrev pub in_run : (parent : ℕ) → Option Operator → Option Operator
+in_run parent None = None
+in_run parent (Some operator) = if continues parent operator then Some operator else None
+
+-- This operator comes next, or none does: each run goes on so.
+abbrev pub NextIs : ExprFilter → Option Operator → Progress → Type 0
+NextIs filter next s = (c : Context) (w : Live) (at : Position) (parent : ℕ) (lhs : Node) → c.filter ≡ filter
+    → result_of (BinaryOp c w at parent lhs) s
+    ≡ exec (guarded (BinaryOp c w at parent lhs) s) (run_at c w at parent lhs (in_run parent next)) s
+
+-- An operator and the operand after it: the token, its position and the operand. The level that is raised behind them
+-- is refused at a position.
+abbrev pub right_side : Context → Live → Position → Prog (Lexeme × Position × Node)
+right_side context live at =
+    Peek (λ op pos. Take (Call (RightOperand context live (role_after op)) (λ rhs.
+    Call (NextOperator context.filter) (λ next. raised context at (λ deeper. Ret (op, pos, rhs))))))
+
+abbrev pub side_view : Side → Lexeme × Position × Node
+side_view side = (lexeme side.op_token, side.pos, chain_view side.rhs)

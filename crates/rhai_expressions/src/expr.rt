@@ -1,0 +1,368 @@
+//! Readers of expressions and operands, with signs and calls.
+
+pub(crate) mod asks;
+pub(crate) mod paths;
+pub(crate) mod runs;
+
+ghost use Rattle.std.specs.Prelude.{◌≡◌, ◌≤◌, [], false, true};
+ghost use Rattle.rhai_lower.specs.Nodes.{no_nodes};
+ghost use Rattle.rhai_lower.specs.View.{view};
+ghost use Rattle.rhai_grammar.specs.Beginnings.{beginning, is_sign};
+ghost use Rattle.rhai_grammar.specs.Cursors.{left};
+ghost use Rattle.rhai_grammar.specs.Delivered.{is_memory};
+ghost use Rattle.rhai_leaves.specs.OperandEnds.{ends_operand};
+ghost use Rattle.rhai_reading.specs.Running.{Done, Gives, Progress, next_item, exec, guarded, after_peek, result_of};
+ghost use Rattle.rhai_readers.specs.Frames.{context_of, live_of};
+ghost use Rattle.rhai_expressions.specs.Operands.{operand_ends};
+ghost use Rattle.rhai_readers.specs.Readers.{Covers, GoesOn, Reads, ReadsAs, arguments, expression, items, links};
+ghost use Rattle.rhai_readers.specs.Readers.{operand, postfix};
+ghost use Rattle.rhai_readers.specs.Readers.{right_operand, state_of, views_of};
+ghost use Rattle.rhai_readers.specs.Heights.{Stays};
+ghost use Rattle.rhai_trees.specs.Chains.{chain_view};
+
+use crate::expr::asks::{as_variable, end_operand, end_plain, ends_here, sign_operand};
+use crate::expr::paths::{NamedOperand, named_operand};
+use crate::primary::asks::take_value;
+use crate::reader::Reader;
+use rhai_base::modules::test_path;
+use rhai_base::words::{is_qualified_name, make_call};
+use rhai_base::{Frame, ParseSettings};
+use rhai_grammar::{CommaList, OperandRole, OperandStart, ParseResult};
+use rhai_leaves::cursor::{peek, skip, take};
+use rhai_leaves::lists::{closes_list, list_continues};
+use rhai_leaves::refusals::missing;
+use rhai_leaves::tokens::{excludes_use, is_no_argument, is_sign, is_value, what_operand};
+use rhai_lower::Expr;
+use rhai_readers::{LentReaders, Shared, nested};
+use rhai_trees::{Chain, make_statement_value};
+
+impl<R: LentReaders> Reader<'_, R> {
+    /// Reads the path and what calls an operand, if it is a name.
+    #[tactic(auto, using(crate::proofs::ExprReaders::parse_plain))]
+    fn parse_postfix(
+        &self,
+        shared: &mut Shared<'_>,
+        frame: &Frame<'_>,
+        settings: ParseSettings,
+        operand: Chain,
+    ) -> ParseResult<Chain>
+        requires lent { Covers (R.lent self.now.readers)
+            (postfix (chain_view operand) self.now.engine.now frame.now settings) shared.old }
+        ensures { ReadsAs self.now.engine.now frame.now settings 2 (postfix (chain_view operand)) chain_view shared.old
+            result shared.new }
+    {
+        if !excludes_use(shared.input)? {
+            return Ok(operand);
+        }
+        self.parse_called(shared, frame, settings, operand)
+    }
+
+    // The same, where the next token makes a name before it one that is called, or part of a path. These are apart,
+    // since a function clears all its locals when it begins. The module that the path begins at is tested
+    // after the arguments.
+    #[inline(never)]
+    #[tactic(auto, using(crate::proofs::ExprReaders::parse_postfix))]
+    fn parse_called(
+        &self,
+        shared: &mut Shared<'_>,
+        frame: &Frame<'_>,
+        settings: ParseSettings,
+        operand: Chain,
+    ) -> ParseResult<Chain>
+        requires lent { Covers (R.lent self.now.readers)
+            (postfix (chain_view operand) self.now.engine.now frame.now settings) shared.old }
+        ensures { ReadsAs self.now.engine.now frame.now settings 2 (postfix (chain_view operand)) chain_view shared.old
+            result shared.new }
+    {
+        let alloc = self.engine.alloc();
+        let (name, pos) = match as_variable(alloc, operand) {
+            Ok(variable) => variable,
+            Err(other) => {
+                peek(shared.input)?;
+                return Ok(other);
+            }
+        };
+        let named = named_operand(alloc, shared, frame, name, pos)?;
+        let NamedOperand { name, pos, called } = named;
+        if !called {
+            return Ok(Chain::from_value(alloc, Expr::Variable(name, pos)));
+        }
+        let qualified = is_qualified_name(&name);
+        let call = nested!(
+            shared,
+            self.parse_call(shared, frame, settings.at(pos), qualified)
+        )?;
+        test_path(frame, settings, &name, pos)?;
+        let call = make_call(alloc, name, pos, call)?;
+        Ok(Chain::from_value(alloc, call))
+    }
+
+    /// Reads the arguments after the `(` of a call. A raise of their level is refused where the settings stand.
+    #[tactic(auto, using(crate::proofs::ExprReaders::parse_fn_call_args))]
+    pub(crate) fn parse_fn_call_args(
+        &self,
+        shared: &mut Shared<'_>,
+        frame: &Frame<'_>,
+        settings: ParseSettings,
+    ) -> ParseResult<Vec<Expr>>
+        requires lent { Covers (R.lent self.now.readers) (arguments self.now.engine.now frame.now settings) shared.old }
+        ensures { ReadsAs self.now.engine.now frame.now settings 0 arguments views_of shared.old result shared.new }
+    {
+        let (token, pos) = peek(shared.input)?;
+        if is_no_argument(token) {
+            let note = "to close the arguments of a call";
+            return Err(missing(self.engine.alloc(), ")", note, token, *pos));
+        }
+        if closes_list(CommaList::Arguments, token) {
+            skip(shared.input);
+            return Ok(Vec::new(self.engine.alloc()));
+        }
+        let settings = settings.level_up()?;
+        self.parse_items(shared, frame, settings)
+    }
+
+    /// Reads an argument, and those that follow, up to the `)`.
+    #[tactic(auto, using(crate::proofs::ExprReaders::parse_items))]
+    fn parse_items(
+        &self,
+        shared: &mut Shared<'_>,
+        frame: &Frame<'_>,
+        settings: ParseSettings,
+    ) -> ParseResult<Vec<Expr>>
+        requires lent { Covers (R.lent self.now.readers) (items no_nodes self.now.engine.now frame.now settings)
+            shared.old }
+        ensures { ReadsAs self.now.engine.now frame.now settings 1 (items no_nodes) views_of shared.old result
+            shared.new }
+    {
+        let mut items = Vec::new(self.engine.alloc());
+        loop {
+            let item = self
+                .readers
+                .parse_expr(self.engine, shared, frame, settings)?;
+            items.push(item)?;
+            if !list_continues(self.engine.alloc(), shared.input, CommaList::Arguments)? {
+                return Ok(items);
+            }
+            let (token, _) = peek(shared.input)?;
+            if closes_list(CommaList::Arguments, token) {
+                skip(shared.input);
+                return Ok(items);
+            }
+        }
+    }
+
+    /// Reads an operand after an operator. What it may be depends on its place: after a range operator it may be
+    /// missing, and after `??` a jump may stand.
+    #[tactic(auto, using(crate::proofs::ExprReaders::parse_right_operand))]
+    pub(crate) fn parse_right_operand(
+        &self,
+        shared: &mut Shared<'_>,
+        frame: &Frame<'_>,
+        settings: ParseSettings,
+        place: OperandRole,
+    ) -> ParseResult<Chain>
+        requires lent { Covers (R.lent self.now.readers) (right_operand place self.now.engine.now frame.now settings)
+            shared.old }
+        ensures goes_on { GoesOn shared.old shared.new }
+        ensures stays { Stays self.now.engine.now frame.now settings 4 shared.old shared.new }
+        ensures reads { Reads (right_operand place self.now.engine.now frame.now settings) chain_view shared.old
+            result shared.new }
+    {
+        let alloc = self.engine.alloc();
+        let (token, pos) = peek(shared.input)?;
+        match what_operand(place, token) {
+            OperandStart::Omitted => Ok(Chain::from_value(alloc, Expr::Unit(*pos))),
+            OperandStart::Jump => {
+                let mut inner = frame.inner(alloc);
+                let jump = self.readers.parse_stmt(
+                    self.engine,
+                    shared,
+                    &mut inner,
+                    settings.below_global_level(),
+                )?;
+                let value = make_statement_value(alloc, jump)?;
+                Ok(Chain::from_value(alloc, value))
+            }
+            OperandStart::Written => nested!(shared, self.parse_unary(shared, frame, settings)),
+        }
+    }
+
+    /// Reads a written operand with its signs and its call. A value is read here, and any other operand apart, since a
+    /// function clears all its locals when it begins.
+    #[inline(always)]
+    #[tactic(auto, using(crate::proofs::ExprReaders::parse_unary))]
+    fn parse_unary(
+        &self,
+        shared: &mut Shared<'_>,
+        frame: &Frame<'_>,
+        settings: ParseSettings,
+    ) -> ParseResult<Chain>
+        requires lent { Covers (R.lent self.now.readers) (operand self.now.engine.now frame.now settings) shared.old }
+        ensures { ReadsAs self.now.engine.now frame.now settings 3 operand chain_view shared.old result shared.new }
+    {
+        let (token, _) = peek(shared.input)?;
+        if !is_value(token) {
+            return match self.parse_written(shared, frame, settings) {
+                Ok(operand) => Ok(operand),
+                Err(error) => Err(error),
+            };
+        }
+        let value = nested!(shared, take_value(shared))?;
+        let operand = Chain::from_value(self.engine.alloc(), value);
+        self.parse_ends(shared, frame, settings, operand)
+    }
+
+    // The same, of an operand that need be no value.
+    #[inline(never)]
+    #[tactic(auto, using(crate::proofs::ExprReaders::parse_written))]
+    fn parse_written(
+        &self,
+        shared: &mut Shared<'_>,
+        frame: &Frame<'_>,
+        settings: ParseSettings,
+    ) -> ParseResult<Chain>
+        requires lent { Covers (R.lent self.now.readers) (operand self.now.engine.now frame.now settings) shared.old }
+        ensures goes_on { GoesOn shared.old shared.new }
+        ensures stays { Stays self.now.engine.now frame.now settings 3 shared.old shared.new }
+        ensures reads { Reads (operand self.now.engine.now frame.now settings) chain_view shared.old result
+            shared.new }
+    {
+        let (token, _) = peek(shared.input)?;
+        if !is_sign(token) {
+            return self.parse_unsigned(shared, frame, settings);
+        }
+        let (sign, pos) = take(shared.input);
+        let settings = settings.at(pos).level_up()?;
+        let operand = nested!(shared, self.parse_written(shared, frame, settings))?;
+        sign_operand(
+            self.engine.alloc(),
+            &mut shared.interner,
+            sign,
+            pos,
+            operand,
+        )
+    }
+
+    /// Reads a written operand without a sign, with its call and its links. The caller has seen that no sign comes
+    /// next.
+    #[inline(always)]
+    #[tactic(auto, using(crate::proofs::ExprReaders::parse_unsigned))]
+    fn parse_unsigned(
+        &self,
+        shared: &mut Shared<'_>,
+        frame: &Frame<'_>,
+        settings: ParseSettings,
+    ) -> ParseResult<Chain>
+        requires unsigned { is_sign (beginning (next_item (state_of shared.old)).lexeme) ≡ false }
+        requires lent { Covers (R.lent self.now.readers) (operand self.now.engine.now frame.now settings) shared.old }
+        ensures { ReadsAs self.now.engine.now frame.now settings 3 operand chain_view shared.old result shared.new }
+    {
+        peek(shared.input)?;
+        let primary = nested!(shared, self.parse_primary(shared, frame, settings))?;
+        self.parse_ends(shared, frame, settings, primary)
+    }
+
+    // Nothing calls an operand before this token, and it is no part of a path.
+    #[inline(always)]
+    fn pass_postfix(
+        &self,
+        shared: &Shared<'_>,
+        frame: &Frame<'_>,
+        settings: ParseSettings,
+        operand: &Chain,
+    )
+        requires looked { state_of shared.now ≡ after_peek (state_of shared.now) }
+        requires readable { is_memory (next_item (state_of shared.now)).lexeme ≡ false }
+        requires ends { ends_operand (next_item (state_of shared.now)).lexeme ≡ true }
+        ensures reads { result_of (postfix (chain_view operand.now) self.now.engine.now frame.now settings)
+            (state_of shared.now) ≡ Done (chain_view operand.now) (state_of shared.now) }
+    {}
+
+    // No link follows an operand before this token.
+    #[inline(always)]
+    fn pass_links(
+        &self,
+        shared: &Shared<'_>,
+        frame: &Frame<'_>,
+        settings: ParseSettings,
+        operand: &Chain,
+    )
+        requires looked { state_of shared.now ≡ after_peek (state_of shared.now) }
+        requires readable { is_memory (next_item (state_of shared.now)).lexeme ≡ false }
+        requires ends { ends_operand (next_item (state_of shared.now)).lexeme ≡ true }
+        ensures reads { result_of (links (chain_view operand.now) self.now.engine.now frame.now settings)
+            (state_of shared.now) ≡ Done [] (state_of shared.now) }
+    {}
+
+    // Reads what calls an operand, and its links.
+    #[inline(always)]
+    #[tactic(auto, using(crate::proofs::ExprReaders::parse_ends))]
+    fn parse_ends(
+        &self,
+        shared: &mut Shared<'_>,
+        frame: &Frame<'_>,
+        settings: ParseSettings,
+        primary: Chain,
+    ) -> ParseResult<Chain>
+        requires lent { Covers (R.lent self.now.readers) (operand self.now.engine.now frame.now settings) shared.old }
+        ensures goes_on { GoesOn shared.old shared.new }
+        ensures stays { Stays self.now.engine.now frame.now settings 3 shared.old shared.new }
+        ensures reads { (s : Progress) → left (state_of shared.old).cursor.tokens ≤ left s.cursor.tokens
+            → Gives chain_view (exec (guarded (operand self.now.engine.now frame.now settings) s) (operand_ends
+            (context_of self.now.engine.now frame.now settings) (live_of frame.now) (chain_view primary))
+            (state_of shared.old)) result (state_of shared.new) }
+    {
+        if !ends_here(shared)? {
+            return match self.parse_all_ends(shared, frame, settings, primary) {
+                Ok(operand) => Ok(operand),
+                Err(error) => Err(error),
+            };
+        }
+        nested!(shared, self.pass_postfix(shared, frame, settings, &primary));
+        self.pass_links(shared, frame, settings, &primary);
+        end_plain(frame, settings, primary)
+    }
+
+    // The same, where the operand does not end before the next token.
+    #[inline(never)]
+    #[tactic(auto, using(crate::proofs::ExprReaders::parse_ends))]
+    fn parse_all_ends(
+        &self,
+        shared: &mut Shared<'_>,
+        frame: &Frame<'_>,
+        settings: ParseSettings,
+        primary: Chain,
+    ) -> ParseResult<Chain>
+        requires lent { Covers (R.lent self.now.readers) (operand self.now.engine.now frame.now settings) shared.old }
+        ensures goes_on { GoesOn shared.old shared.new }
+        ensures stays { Stays self.now.engine.now frame.now settings 3 shared.old shared.new }
+        ensures reads { (s : Progress) → left (state_of shared.old).cursor.tokens ≤ left s.cursor.tokens
+            → Gives chain_view (exec (guarded (operand self.now.engine.now frame.now settings) s) (operand_ends
+            (context_of self.now.engine.now frame.now settings) (live_of frame.now) (chain_view primary))
+            (state_of shared.old)) result (state_of shared.new) }
+    {
+        let operand = nested!(shared, self.parse_postfix(shared, frame, settings, primary))?;
+        match self.parse_links(shared, frame, settings, &operand) {
+            Ok(links) => end_operand(frame, settings, operand, links),
+            Err(error) => Err(error),
+        }
+    }
+
+    /// Reads an expression, as a chain that may go on. The level is raised at its first token.
+    #[tactic(auto, using(crate::proofs::ExprReaders::parse_chain))]
+    pub fn parse_chain(
+        &self,
+        shared: &mut Shared<'_>,
+        frame: &Frame<'_>,
+        settings: ParseSettings,
+    ) -> ParseResult<Chain>
+        requires lent { Covers (R.lent self.now.readers) (expression self.now.engine.now frame.now settings)
+            shared.old }
+        ensures { ReadsAs self.now.engine.now frame.now settings 0 expression chain_view shared.old result shared.new }
+    {
+        let (_, pos) = peek(shared.input)?;
+        let settings = settings.at(*pos).level_up()?;
+        let lhs = nested!(shared, self.parse_unary(shared, frame, settings))?;
+        self.parse_binary_op(shared, frame, settings, 1, lhs)
+    }
+}

@@ -1,0 +1,132 @@
+//! Leaves joined for operands, as the reading program joins them. They are the next key, and what a name or a word is.
+
+ghost use Rattle.std.specs.Prelude.{◌≡◌, IfErr, IfOk, OnOk, false, option_map, true};
+ghost use Rattle.rhai_lower.specs.View.{property_views, view, written};
+ghost use Rattle.rhai_grammar.specs.Answers.{Answers};
+ghost use Rattle.rhai_grammar.specs.Causes.{MemoryIsNowhere};
+ghost use Rattle.rhai_base.specs.Frames.{FrameValue};
+ghost use Rattle.rhai_base.specs.Settings.{settings_of};
+ghost use Rattle.rhai_base.specs.Words.{word_result};
+ghost use Rattle.rhai_trees.specs.Chains.{chain_view};
+ghost use Rattle.rhai_trees.specs.Linked.{is_linked};
+ghost use Rattle.rhai_reading.specs.Reading.{NextKey, Primary};
+ghost use Rattle.std.specs.Rc.{rc_str_bytes};
+ghost use Rattle.rhai_lower.specs.Lexemes.{Lexeme};
+ghost use Rattle.rhai_grammar.specs.Beginnings.{beginning, excludes_use, is_value};
+ghost use Rattle.rhai_grammar.specs.Contexts.{Context, Live};
+ghost use Rattle.rhai_reading.specs.Reading.{name_at};
+ghost use Rattle.rhai_reading.specs.Running.{Caller, Done, Gives, next_item, exec, result_of};
+ghost use Rattle.rhai_readers.specs.Frames.{context_of, live_of};
+ghost use Rattle.rhai_readers.specs.Engines.{EngineValue};
+ghost use Rattle.rhai_readers.specs.Readers.{GoesOn, Reads, state_of};
+ghost use Rattle.rhai_readers.specs.Heights.{Steady};
+
+use crate::primary::keys;
+use rhai_base::literals::value_of;
+use rhai_base::words::{name_node, word_node};
+use rhai_base::{Frame, ParseSettingFlags, ParseSettings};
+use rhai_grammar::{DueToken, ParseResult};
+use rhai_leaves::cursor::{peek, skip};
+use rhai_leaves::due::match_token;
+use rhai_leaves::items::room_for_value;
+use rhai_lower::{Expr, Ident, NamedList, Position};
+use rhai_readers::{Config, Shared};
+use rhai_trees::Chain;
+use std::alloc::{AllocError, Global};
+use std::rc::RcStr;
+
+/// The key of the property after these ones, with its `:`, and a look at the value that is due; none where the `}` is,
+/// which is taken. The engine limits how many properties the literal has.
+#[tactic(auto, using(rhai_reading::proofs::Steps::step_next_key, crate::proofs::KeyLemmas::count_properties))]
+pub(crate) fn next_key(
+    engine: &Config,
+    shared: &mut Shared<'_>,
+    settings: ParseSettings,
+    properties: &NamedList<(Ident, Expr)>,
+) -> ParseResult<Option<Ident>>
+    ensures goes_on { GoesOn shared.old shared.new }
+    ensures steady { Steady shared.old shared.new }
+    ensures reads { (frame : FrameValue) → Reads (NextKey (context_of engine.now frame settings)
+        (property_views properties.now)) (option_map written) shared.old result shared.new }
+{
+    let alloc = engine.alloc();
+    let next = match keys::next_key(alloc, shared.input, settings, properties) {
+        Ok(next) => next,
+        Err(error) => return Err(error),
+    };
+    let Some(key) = next else {
+        return Ok(None);
+    };
+    let note = "to follow the key of a property in this object map literal";
+    if let Err(error) = match_token(alloc, shared.input, DueToken::Colon, note) {
+        return Err(error);
+    }
+    match room_for_value(alloc, shared.input, engine.max_map_size(), properties.len()) {
+        Ok(()) => Ok(Some(key)),
+        Err(error) => Err(error),
+    }
+}
+
+/// The value that the next token is, which is taken. The error is that there is no memory for it.
+#[inline(always)]
+#[tactic(auto, using(crate::proofs::PrimaryReaders::take_value))]
+pub(crate) fn take_value(shared: &mut Shared<'_>) -> Result<Expr, AllocError>
+    requires value { is_value (beginning (next_item (state_of shared.old)).lexeme) ≡ true }
+    ensures goes_on { GoesOn shared.old shared.new }
+    ensures steady { Steady shared.old shared.new }
+    ensures reads { (context : Context) (live : Live) → IfOk result (λ x. result_of (Primary context live)
+        (state_of shared.old) ≡ Done (view x) (state_of shared.new)) }
+    ensures value { IfOk result (λ x. is_linked (view x) ≡ false) }
+{
+    let (token, pos) = peek(shared.input)?;
+    let value = value_of(token, *pos)?;
+    skip(shared.input);
+    Ok(value)
+}
+
+/// What a name is in this frame, where `excluded` says that it is no use of a variable. A use that the closure around
+/// captures is noted.
+///
+/// Under strict variables a variable that is not known is `VariableUndefined`; if memory runs out, the error is
+/// `OutOfMemory`.
+#[tactic(auto, using(crate::proofs::PrimaryLemmas::name_value))]
+pub(crate) fn used_name(
+    alloc: Global,
+    shared: &mut Shared<'_>,
+    frame: &Frame<'_>,
+    settings: ParseSettings,
+    name: RcStr,
+    excluded: bool,
+    pos: Position,
+) -> ParseResult<Chain>
+    ensures goes_on { GoesOn shared.old shared.new }
+    ensures steady { Steady shared.old shared.new }
+    ensures gives { (engine : EngineValue) (call : Caller) (token : Lexeme) → excluded ≡ excludes_use token
+        → Gives chain_view (exec call (name_at (context_of engine frame.now settings) (live_of frame.now)
+        (rc_str_bytes name) pos token (state_of shared.old).library) (state_of shared.old)) result
+        (state_of shared.new) }
+{
+    let closure = settings.has_flag(ParseSettingFlags::CLOSURE_SCOPE);
+    let captures = !excluded && frame.is_captured(closure, shared.library, &name);
+    let used = name.clone()?;
+    let node = name_node(alloc, frame, shared.library, settings, name, excluded, pos)?;
+    shared.note(captures, &used, pos)?;
+    Ok(Chain::from_value(alloc, node))
+}
+
+/// What a reserved word or symbol is: the name of a call, or `this` in a function.
+///
+/// `this` elsewhere is `ImproperSymbol`, anything else is `Reserved`; if memory runs out, the error is `OutOfMemory`.
+pub(crate) fn used_word(
+    alloc: Global,
+    settings: ParseSettings,
+    word: RcStr,
+    called: bool,
+    pos: Position,
+) -> ParseResult<Chain>
+    ensures answers { Answers chain_view (word_result (settings_of settings) (rc_str_bytes word) called pos) result }
+    ensures nowhere { IfErr result MemoryIsNowhere }
+{
+    let node = word_node(alloc, settings, word, called, pos)?;
+    Ok(Chain::from_value(alloc, node))
+}

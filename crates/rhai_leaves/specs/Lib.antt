@@ -1,0 +1,14 @@
+pub mod Arms
+pub mod Closures
+pub mod CommaLists
+pub mod Constructs
+pub mod DueTokens
+pub mod MapKeys
+pub mod Members
+pub mod OperandEnds
+pub mod Operators
+pub mod Shown
+pub mod Statements
+pub mod Strings
+pub mod Functions
+pub mod Leaves

@@ -1,0 +1,5 @@
+use Rattle.std.proofs.Common.{refl}
+use Rattle.rhai_parser.proofs.lending.LentLentReaders.parse_block_inside.Goals as goal
+
+pub returns : goal.returns
+returns g c = (c.requires.covered.3 _ _ _ _ refl).1 _ _ c.inside.ensures

@@ -1,0 +1,5 @@
+use Rattle.std.proofs.Common.{refl}
+use Rattle.rhai_parser.proofs.lending.LentLentReaders.parse_construct.Goals as goal
+
+pub returns : goal.returns
+returns g c = (c.requires.covered.2 _ _ _ _ _ refl).1 _ _ c.construct.ensures

@@ -1,0 +1,5 @@
+pub mod Bounds
+pub mod Frames
+pub mod Engines
+pub mod Readers
+pub mod Heights

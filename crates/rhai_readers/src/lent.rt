@@ -1,0 +1,86 @@
+//! `LentReaders`: the readers that other readers call.
+
+ghost use Rattle.std.specs.Prelude.{◌≡◌, ◌≤◌, ℕ, ◌+◌, IfOk, true};
+ghost use Rattle.rhai_lower.specs.View.{statement_view, view};
+ghost use Rattle.rhai_readers.specs.Readers.{NestsAs, construct, expression, inside, state_of, statement};
+ghost use Rattle.rhai_readers.specs.Readers.{statements_of, with_live};
+ghost use Rattle.rhai_base.specs.Frames.{SameSurroundings};
+ghost use Rattle.rhai_grammar.specs.Cursors.{left};
+ghost use Rattle.rhai_grammar.specs.Statements.{ends_itself};
+ghost use Rattle.rhai_reading.specs.Running.{need};
+ghost use Rattle.rhai_readers.specs.Heights.{function_height};
+ghost use Rattle.rhai_trees.specs.Chains.{chain_view};
+
+use crate::config::Config;
+use crate::shared::Shared;
+use rhai_base::{Frame, ParseSettings};
+use rhai_grammar::{Construct, ParseResult};
+use rhai_lower::{Expr, Stmt};
+use rhai_trees::Chain;
+
+/// Readers that are lent to a reader, for the parts of a script that it does not read itself.
+pub trait LentReaders {
+    /// Whether calls may be made where this much is left to do.
+    ghost lent: { Self → ℕ → Type 0 };
+
+    /// Reads an expression, as a chain that may go on. The level is raised at its first token.
+    fn parse_chain(
+        &self,
+        engine: &Config,
+        shared: &mut Shared<'_>,
+        frame: &Frame<'_>,
+        settings: ParseSettings,
+    ) -> ParseResult<Chain>
+        requires covered { lent self.now (need (expression engine.now frame.now settings) (state_of shared.old)) }
+        ensures { NestsAs engine.now frame.now settings 1 expression chain_view shared.old result shared.new };
+
+    /// Reads an expression. The level is raised at its first token.
+    fn parse_expr(
+        &self,
+        engine: &Config,
+        shared: &mut Shared<'_>,
+        frame: &Frame<'_>,
+        settings: ParseSettings,
+    ) -> ParseResult<Expr>
+        requires covered { lent self.now (need (expression engine.now frame.now settings) (state_of shared.old)) }
+        ensures { NestsAs engine.now frame.now settings 1 expression view shared.old result shared.new };
+
+    /// Reads a statement. The level is raised at its first token.
+    fn parse_stmt(
+        &self,
+        engine: &Config,
+        shared: &mut Shared<'_>,
+        frame: &mut Frame<'_>,
+        settings: ParseSettings,
+    ) -> ParseResult<Stmt>
+        requires covered { lent self.now (need (statement engine.now frame.old settings) (state_of shared.old)) }
+        ensures reads { NestsAs engine.now frame.old settings (2 + function_height engine.now settings) statement
+            (with_live statement_view frame.new) shared.old result shared.new }
+        ensures place { SameSurroundings frame.old frame.new }
+        ensures takes { IfOk result (λ s. ends_itself (statement_view s) ≡ true
+            → left (state_of shared.new).cursor.tokens + 1 ≤ left (state_of shared.old).cursor.tokens) };
+
+    /// Reads a construct of this kind after its first token, where the settings stand.
+    fn parse_construct(
+        &self,
+        engine: &Config,
+        shared: &mut Shared<'_>,
+        frame: &Frame<'_>,
+        settings: ParseSettings,
+        kind: Construct,
+    ) -> ParseResult<Stmt>
+        requires covered { lent self.now (need (construct kind engine.now frame.now settings) (state_of shared.old)) }
+        ensures { NestsAs engine.now frame.now settings 5 (construct kind) statement_view shared.old result
+            shared.new };
+
+    /// Reads the statements of a block up to its `}`, which stays. Its definitions end with it.
+    fn parse_block_inside(
+        &self,
+        engine: &Config,
+        shared: &mut Shared<'_>,
+        frame: &Frame<'_>,
+        settings: ParseSettings,
+    ) -> ParseResult<Vec<Stmt>>
+        requires covered { lent self.now (need (inside engine.now frame.now settings) (state_of shared.old)) }
+        ensures { NestsAs engine.now frame.now settings 3 inside statements_of shared.old result shared.new };
+}

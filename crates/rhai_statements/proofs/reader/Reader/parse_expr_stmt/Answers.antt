@@ -1,0 +1,23 @@
+use Rattle.std.proofs.Common.{arith}
+use Rattle.rhai_lower.specs.View.{statement_view}
+use Rattle.rhai_reading.specs.Running.{guarded}
+use Rattle.rhai_readers.specs.Readers.{expr_statement, state_of}
+use Rattle.rhai_statements.proofs.reader.Reader.parse_expr_stmt.Goals as goal
+use Rattle.rhai_readers.proofs.Given.{gives_so}
+use Rattle.rhai_statements.proofs.StmtReaders as rule
+
+pub returns-in_err-value-clause-reads : goal.returns-in_err-value-clause-reads
+returns-in_err-value-clause-reads g c = record {
+  goes_on = grind arith;
+  stays = grind arith;
+  reads = grind (arith, rule.parse_expr_stmt);
+}
+
+pub returns-clause-reads : goal.returns-clause-reads
+returns-clause-reads g c = record {
+  goes_on = grind arith;
+  stays = grind arith;
+  reads =
+      let call = guarded (expr_statement c.args.self.now.engine.now c.args.frame.now c.args.settings) (state_of c.args.shared.now) in
+      gives_so statement_view c.end_assignment.result (state_of c.parse_expr-2.new.shared) (grind (arith, rule.parse_expr_stmt)) (c.end_assignment.ensures.gives call _);
+}

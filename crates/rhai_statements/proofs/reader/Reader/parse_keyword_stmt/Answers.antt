@@ -1,0 +1,49 @@
+use Rattle.std.proofs.Common.{◌≡◌, arith, rules, ap, sym}
+use Rattle.rhai_lower.specs.View.{statement_view}
+use Rattle.rhai_grammar.specs.Cursors.{cursor_of}
+use Rattle.rhai_grammar.specs.Settings.{Settings}
+use Rattle.rhai_readers.specs.Frames.{context_of, live_of}
+use Rattle.rhai_readers.specs.Readers.{state_at, state_of, statement, with_live}
+use Rattle.rhai_readers.proofs.Given.{gives_so}
+use Rattle.rhai_readers.proofs.Heights.{room_same}
+use Rattle.rhai_statements.proofs.CommentLemmas.{function_starts}
+use Rattle.rhai_statements.proofs.StmtReaders as rule
+use Rattle.rhai_statements.proofs.reader.Reader.parse_keyword_stmt.Goals as goal
+
+pub returns-in-Function-clause-reads : goal.returns-in-Function-clause-reads
+returns-in-Function-clause-reads g c = record {
+  goes_on = grind arith;
+  stays =
+      let same = room_same c.args.self.now.engine.now c.at-settings.result c.args.settings c.at-settings.ensures.settings in
+      record { nesting = grind (arith, same); library = grind arith };
+  reads =
+      let engine = c.args.self.now.engine.now in
+      let frame = c.args.frame.now in
+      let context = context_of engine frame c.args.settings in
+      let inside = context_of engine frame c.at-settings.result in
+      let same : inside ≡ context = ap (λ (x : Settings). record context { settings = x }) c.at-settings.ensures.settings in
+      let old = state_of c.args.shared.now in
+      let looked = state_at c.args.shared.now (cursor_of c.peek.follows.lender-at-none) in
+      gives_so (with_live statement_view frame) c.parse_plain_fn.result (state_of c.parse_plain_fn.new.shared)
+      (function_starts context inside (live_of frame) c.at-settings.result.pos old looked
+      (search rules) (search rules) (sym same) (search rules) (ap (state_at c.args.shared.now) c.peek.follows.holds-at-none))
+      (c.parse_plain_fn.ensures.reads (statement engine frame c.args.settings) old (grind arith));
+}
+
+pub returns-in-Private-clause-reads : goal.returns-in-Private-clause-reads
+returns-in-Private-clause-reads g c = record {
+  goes_on = grind arith;
+  stays =
+      let same = room_same c.args.self.now.engine.now c.at-settings.result c.args.settings c.at-settings.ensures.settings in
+      record { nesting = grind (arith, same); library = grind arith };
+  reads = grind (arith, rule.parse_stmt);
+}
+
+pub returns-in-Comment-clause-reads : goal.returns-in-Comment-clause-reads
+returns-in-Comment-clause-reads g c = record {
+  goes_on = grind arith;
+  stays =
+      let same = room_same c.args.self.now.engine.now c.at-settings.result c.args.settings c.at-settings.ensures.settings in
+      record { nesting = grind (arith, same); library = grind arith };
+  reads = grind (arith, rule.parse_stmt);
+}
