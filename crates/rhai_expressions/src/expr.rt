@@ -7,14 +7,14 @@ pub(crate) mod runs;
 ghost use Rattle.std.specs.Prelude.{◌≡◌, ◌≤◌, [], false, true};
 ghost use Rattle.rhai_lower.specs.Nodes.{no_nodes};
 ghost use Rattle.rhai_lower.specs.View.{view};
-ghost use Rattle.rhai_grammar.specs.Beginnings.{beginning, is_sign};
+ghost use Rattle.rhai_grammar.specs.Beginnings.{beginning};
 ghost use Rattle.rhai_grammar.specs.Cursors.{left};
 ghost use Rattle.rhai_grammar.specs.Delivered.{is_memory};
 ghost use Rattle.rhai_leaves.specs.OperandEnds.{ends_operand};
 ghost use Rattle.rhai_reading.specs.Running.{Done, Gives, Progress, next_item, exec, guarded, after_peek, result_of};
 ghost use Rattle.rhai_readers.specs.Frames.{context_of, live_of};
 ghost use Rattle.rhai_expressions.specs.Operands.{operand_ends};
-ghost use Rattle.rhai_readers.specs.Readers.{Covers, GoesOn, Reads, ReadsAs, arguments, expression, items, links};
+ghost use Rattle.rhai_readers.specs.Readers.{Covers, GoesOn, ReadsAs, arguments, expression, items, links};
 ghost use Rattle.rhai_readers.specs.Readers.{operand, postfix};
 ghost use Rattle.rhai_readers.specs.Readers.{right_operand, state_of, views_of};
 ghost use Rattle.rhai_readers.specs.Heights.{Stays};
@@ -27,11 +27,11 @@ use crate::reader::Reader;
 use rhai_base::modules::test_path;
 use rhai_base::words::{is_qualified_name, make_call};
 use rhai_base::{Frame, ParseSettings};
-use rhai_grammar::{CommaList, OperandRole, OperandStart, ParseResult};
+use rhai_grammar::{Beginning, CommaList, OperandRole, OperandStart, ParseResult};
 use rhai_leaves::cursor::{peek, skip, take};
 use rhai_leaves::lists::{closes_list, list_continues};
 use rhai_leaves::refusals::missing;
-use rhai_leaves::tokens::{excludes_use, is_no_argument, is_sign, is_value, what_operand};
+use rhai_leaves::tokens::{excludes_use, is_no_argument, what_begins, what_operand};
 use rhai_lower::Expr;
 use rhai_readers::{LentReaders, Shared, nested};
 use rhai_trees::{Chain, make_statement_value};
@@ -163,9 +163,7 @@ impl<R: LentReaders> Reader<'_, R> {
     ) -> ParseResult<Chain>
         requires lent { Covers (R.lent self.now.readers) (right_operand place self.now.engine.now frame.now settings)
             shared.old }
-        ensures goes_on { GoesOn shared.old shared.new }
-        ensures stays { Stays self.now.engine.now frame.now settings 4 shared.old shared.new }
-        ensures reads { Reads (right_operand place self.now.engine.now frame.now settings) chain_view shared.old
+        ensures { ReadsAs self.now.engine.now frame.now settings 4 (right_operand place) chain_view shared.old
             result shared.new }
     {
         let alloc = self.engine.alloc();
@@ -187,8 +185,8 @@ impl<R: LentReaders> Reader<'_, R> {
         }
     }
 
-    /// Reads a written operand with its signs and its call. A value is read here, and any other operand apart, since a
-    /// function clears all its locals when it begins.
+    /// Reads a written operand with its signs and its call. Its first token is classified here, and nowhere below. A
+    /// value is read here, and any other operand apart, since a function clears all its locals when it begins.
     #[inline(always)]
     #[tactic(auto, using(crate::proofs::ExprReaders::parse_unary))]
     fn parse_unary(
@@ -201,8 +199,9 @@ impl<R: LentReaders> Reader<'_, R> {
         ensures { ReadsAs self.now.engine.now frame.now settings 3 operand chain_view shared.old result shared.new }
     {
         let (token, _) = peek(shared.input)?;
-        if !is_value(token) {
-            return match self.parse_written(shared, frame, settings) {
+        let begins = what_begins(token);
+        if !matches!(begins, Beginning::Value) {
+            return match self.parse_written(shared, frame, settings, begins) {
                 Ok(operand) => Ok(operand),
                 Err(error) => Err(error),
             };
@@ -212,7 +211,7 @@ impl<R: LentReaders> Reader<'_, R> {
         self.parse_ends(shared, frame, settings, operand)
     }
 
-    // The same, of an operand that need be no value.
+    // The same, of an operand that begins so, as the caller has seen, and that need be no value.
     #[inline(never)]
     #[tactic(auto, using(crate::proofs::ExprReaders::parse_written))]
     fn parse_written(
@@ -220,46 +219,41 @@ impl<R: LentReaders> Reader<'_, R> {
         shared: &mut Shared<'_>,
         frame: &Frame<'_>,
         settings: ParseSettings,
+        begins: Beginning,
     ) -> ParseResult<Chain>
-        requires lent { Covers (R.lent self.now.readers) (operand self.now.engine.now frame.now settings) shared.old }
-        ensures goes_on { GoesOn shared.old shared.new }
-        ensures stays { Stays self.now.engine.now frame.now settings 3 shared.old shared.new }
-        ensures reads { Reads (operand self.now.engine.now frame.now settings) chain_view shared.old result
-            shared.new }
-    {
-        let (token, _) = peek(shared.input)?;
-        if !is_sign(token) {
-            return self.parse_unsigned(shared, frame, settings);
-        }
-        let (sign, pos) = take(shared.input);
-        let settings = settings.at(pos).level_up()?;
-        let operand = nested!(shared, self.parse_written(shared, frame, settings))?;
-        sign_operand(
-            self.engine.alloc(),
-            &mut shared.interner,
-            sign,
-            pos,
-            operand,
-        )
-    }
-
-    /// Reads a written operand without a sign, with its call and its links. The caller has seen that no sign comes
-    /// next.
-    #[inline(always)]
-    #[tactic(auto, using(crate::proofs::ExprReaders::parse_unsigned))]
-    fn parse_unsigned(
-        &self,
-        shared: &mut Shared<'_>,
-        frame: &Frame<'_>,
-        settings: ParseSettings,
-    ) -> ParseResult<Chain>
-        requires unsigned { is_sign (beginning (next_item (state_of shared.old)).lexeme) ≡ false }
+        requires begins { begins ≡ beginning (next_item (state_of shared.old)).lexeme }
+        requires looked { state_of shared.old ≡ after_peek (state_of shared.old) }
+        requires readable { is_memory (next_item (state_of shared.old)).lexeme ≡ false }
         requires lent { Covers (R.lent self.now.readers) (operand self.now.engine.now frame.now settings) shared.old }
         ensures { ReadsAs self.now.engine.now frame.now settings 3 operand chain_view shared.old result shared.new }
     {
-        peek(shared.input)?;
-        let primary = nested!(shared, self.parse_primary(shared, frame, settings))?;
-        self.parse_ends(shared, frame, settings, primary)
+        match begins {
+            Beginning::Sign => {
+                let (sign, pos) = take(shared.input);
+                let settings = settings.at(pos).level_up()?;
+                let (token, _) = peek(shared.input)?;
+                let begins = what_begins(token);
+                let operand = nested!(
+                    shared,
+                    self.parse_written(shared, frame, settings, begins)
+                )?;
+                let alloc = self.engine.alloc();
+                sign_operand(alloc, &mut shared.interner, sign, pos, operand)
+            }
+            Beginning::Value | Beginning::Name | Beginning::Word => {
+                let primary = nested!(
+                    shared,
+                    self.parse_primary(shared, frame, settings, begins)
+                )?;
+                self.parse_ends(shared, frame, settings, primary)
+            }
+            _ => {
+                let primary = self
+                    .readers
+                    .parse_compound(self.engine, shared, frame, settings)?;
+                self.parse_all_ends(shared, frame, settings, primary)
+            }
+        }
     }
 
     // Nothing calls an operand before this token, and it is no part of a path.

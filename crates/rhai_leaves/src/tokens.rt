@@ -8,6 +8,7 @@ ghost use Rattle.rhai_grammar.specs.Beginnings.{beginning, calling, calls, exclu
 ghost use Rattle.rhai_grammar.specs.Beginnings.{is_sign, is_value, omits_operand, qualifies};
 ghost use Rattle.rhai_grammar.specs.CommaLists.{no_argument};
 ghost use Rattle.rhai_leaves.specs.Closures.{EndsHere};
+ghost use Rattle.rhai_leaves.specs.PlainPrimaries.{is_plain};
 ghost use Rattle.rhai_grammar.specs.Starts.{jumps, operand_start, role_after};
 ghost use Rattle.rhai_grammar.specs.declared.role.OperandStart.TheVariants.{Jump};
 
@@ -79,6 +80,17 @@ pub fn is_value(token: &Token) -> bool
     ensures { result ≡ is_value (beginning (lexeme token.now)) }
 {
     matches!(what_begins(token), Beginning::Value)
+}
+
+/// Whether a token is an operand by itself: a value, a name or a word.
+#[inline(always)]
+pub fn is_plain(token: &Token) -> bool
+    ensures { result ≡ is_plain (beginning (lexeme token.now)) }
+{
+    matches!(
+        what_begins(token),
+        Beginning::Value | Beginning::Name | Beginning::Word
+    )
 }
 
 /// Whether a token is a sign where an operand is due.
