@@ -7,7 +7,7 @@ ghost use Rattle.std.specs.Prelude.{◌≡◌, true};
 ghost use Rattle.rhai_grammar.specs.Beginnings.{beginning};
 ghost use Rattle.rhai_readers.specs.Readers.{ReadsAs, primary, state_of};
 ghost use Rattle.rhai_reading.specs.Running.{next_item};
-ghost use Rattle.rhai_leaves.specs.PlainPrimaries.{is_plain};
+ghost use Rattle.rhai_readers.specs.PlainPrimaries.{is_plain};
 ghost use Rattle.rhai_trees.specs.Chains.{chain_view};
 
 use crate::primary::asks::{take_value, used_name, used_word};

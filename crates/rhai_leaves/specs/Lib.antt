@@ -7,7 +7,6 @@ pub mod MapKeys
 pub mod Members
 pub mod OperandEnds
 pub mod Operators
-pub mod PlainPrimaries
 pub mod Shown
 pub mod Statements
 pub mod Strings

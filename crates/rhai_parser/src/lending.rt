@@ -7,7 +7,7 @@ ghost use Rattle.rhai_base.specs.Frames.{SameSurroundings};
 ghost use Rattle.rhai_grammar.specs.Beginnings.{beginning};
 ghost use Rattle.rhai_grammar.specs.Cursors.{left};
 ghost use Rattle.rhai_grammar.specs.Statements.{ends_itself};
-ghost use Rattle.rhai_leaves.specs.PlainPrimaries.{is_plain};
+ghost use Rattle.rhai_readers.specs.PlainPrimaries.{is_plain};
 ghost use Rattle.rhai_reading.specs.Running.{need, next_item};
 ghost use Rattle.rhai_readers.specs.Readers.{NestsAs, ReadsAs, construct, expression, inside};
 ghost use Rattle.rhai_readers.specs.Readers.{primary, state_of, statement, statements, statements_of, whole, with_live};

@@ -2,9 +2,8 @@
 
 ghost use Rattle.std.specs.Prelude.{◌≡◌, false};
 ghost use Rattle.rhai_grammar.specs.Beginnings.{beginning};
-ghost use Rattle.rhai_leaves.specs.PlainPrimaries.{is_plain};
-ghost use Rattle.rhai_readers.specs.Heights.{Stays};
-ghost use Rattle.rhai_readers.specs.Readers.{Covers, GoesOn, Reads, primary, state_of};
+ghost use Rattle.rhai_readers.specs.PlainPrimaries.{is_plain};
+ghost use Rattle.rhai_readers.specs.Readers.{Covers, ReadsAs, primary, state_of};
 ghost use Rattle.rhai_reading.specs.Running.{next_item};
 ghost use Rattle.rhai_trees.specs.Chains.{chain_view};
 
@@ -31,10 +30,7 @@ impl<R: LentReaders> Reader<'_, R> {
     ) -> ParseResult<Chain>
         requires compound { is_plain (beginning (next_item (state_of shared.old)).lexeme) ≡ false }
         requires lent { Covers (R.lent self.now.readers) (primary self.now.engine.now frame.now settings) shared.old }
-        ensures goes_on { GoesOn shared.old shared.new }
-        ensures stays { Stays self.now.engine.now frame.now settings 1 shared.old shared.new }
-        ensures reads { Reads (primary self.now.engine.now frame.now settings) chain_view shared.old result
-            shared.new }
+        ensures { ReadsAs self.now.engine.now frame.now settings 1 primary chain_view shared.old result shared.new }
     {
         let alloc = self.engine.alloc();
         let (token, pos) = peek(shared.input)?;
