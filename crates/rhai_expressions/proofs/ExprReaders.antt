@@ -14,7 +14,7 @@ pub ruleset parse_chain = (readers, nested_so, step_expression)
 
 pub ruleset parse_unary = (readers, nested_so)
 
-pub ruleset parse_written = (readers, nested_so, step_operand, operand_sign, sign_outcome)
+pub ruleset parse_rare = (readers, nested_so, step_operand, operand_sign, sign_outcome)
 
 pub ruleset parse_ends = (readers, nested_so)
 

@@ -13,6 +13,9 @@ use Rattle.rhai_grammar.specs.Modules.{module_fault}
 use Rattle.rhai_grammar.specs.Signs.{sign_result}
 use Rattle.rhai_grammar.specs.Spots.{spot_after_operand}
 use Rattle.rhai_grammar.specs.declared.error.ParseError.{ParseError}
+use Rattle.rhai_grammar.specs.declared.role.Beginning.{Beginning}
+use Rattle.rhai_grammar.specs.declared.role.Beginning.TheVariants as begin
+use Rattle.rhai_readers.specs.PlainPrimaries.{is_plain}
 use Rattle.rhai_reading.specs.Reading.{Call, Fail, Links, Operand, Postfix, Primary, operand_by, sign_on, tested}
 use Rattle.rhai_reading.specs.Running as R
 use Rattle.rhai_reading.specs.Running.{Caller, Progress, next_item, entering, exec, guarded, leaving, after_peek, after_take, nested, result_of}
@@ -53,6 +56,11 @@ operand_fails c w s readable unsigned e t fails = (
 nested_looked : (c : Context) (w : Live) (s : Progress) → nested (result_of (Operand c w)) (after_peek s) ≡ nested (result_of (Operand c w)) s
 unfolding nested
 nested_looked c w s = ap R.left_so (looked (Operand c w) _ (entering s) refl)
+
+-- what is an operand by itself is no sign
+pub plain_unsigned : (b : Beginning) → is_plain b ≡ true → is_sign b ≡ false
+plain_unsigned begin.Sign e = absurd cc
+plain_unsigned _ e = refl
 
 -- no sign is the end mark
 pub sign_is_no_end : (l : Lexeme) → is_sign (beginning l) ≡ true → is_end l ≡ false

@@ -18,6 +18,7 @@ ghost use Rattle.rhai_readers.specs.Readers.{Covers, GoesOn, ReadsAs, arguments,
 ghost use Rattle.rhai_readers.specs.Readers.{operand, postfix};
 ghost use Rattle.rhai_readers.specs.Readers.{right_operand, state_of, views_of};
 ghost use Rattle.rhai_readers.specs.Heights.{Stays};
+ghost use Rattle.rhai_readers.specs.PlainPrimaries.{is_plain};
 ghost use Rattle.rhai_trees.specs.Chains.{chain_view};
 
 use crate::expr::asks::{as_variable, end_operand, end_plain, ends_here, sign_operand};
@@ -200,21 +201,53 @@ impl<R: LentReaders> Reader<'_, R> {
     {
         let (token, _) = peek(shared.input)?;
         let begins = what_begins(token);
-        if !matches!(begins, Beginning::Value) {
-            return match self.parse_written(shared, frame, settings, begins) {
+        match begins {
+            Beginning::Value => {
+                let value = nested!(shared, take_value(shared))?;
+                let operand = Chain::from_value(self.engine.alloc(), value);
+                self.parse_ends(shared, frame, settings, operand)
+            }
+            Beginning::Name | Beginning::Word => {
+                match self.parse_plain(shared, frame, settings, begins) {
+                    Ok(operand) => Ok(operand),
+                    Err(error) => Err(error),
+                }
+            }
+            _ => match self.parse_rare(shared, frame, settings, begins) {
                 Ok(operand) => Ok(operand),
                 Err(error) => Err(error),
-            };
+            },
         }
-        let value = nested!(shared, take_value(shared))?;
-        let operand = Chain::from_value(self.engine.alloc(), value);
-        self.parse_ends(shared, frame, settings, operand)
     }
 
-    // The same, of an operand that begins so, as the caller has seen, and that need be no value.
+    // The same, of an operand that is one token, as the caller has seen.
     #[inline(never)]
-    #[tactic(auto, using(crate::proofs::ExprReaders::parse_written))]
-    fn parse_written(
+    #[tactic(auto, using(crate::proofs::ExprReaders::parse_unary))]
+    fn parse_plain(
+        &self,
+        shared: &mut Shared<'_>,
+        frame: &Frame<'_>,
+        settings: ParseSettings,
+        begins: Beginning,
+    ) -> ParseResult<Chain>
+        requires begins { begins ≡ beginning (next_item (state_of shared.old)).lexeme }
+        requires plain { is_plain begins ≡ true }
+        requires looked { state_of shared.old ≡ after_peek (state_of shared.old) }
+        requires readable { is_memory (next_item (state_of shared.old)).lexeme ≡ false }
+        requires lent { Covers (R.lent self.now.readers) (operand self.now.engine.now frame.now settings) shared.old }
+        ensures { ReadsAs self.now.engine.now frame.now settings 3 operand chain_view shared.old result shared.new }
+    {
+        let primary = nested!(
+            shared,
+            self.parse_primary(shared, frame, settings, begins)
+        )?;
+        self.parse_ends(shared, frame, settings, primary)
+    }
+
+    // The same, of any operand. This is apart, since few operands are no single token.
+    #[inline(never)]
+    #[tactic(auto, using(crate::proofs::ExprReaders::parse_rare))]
+    fn parse_rare(
         &self,
         shared: &mut Shared<'_>,
         frame: &Frame<'_>,
@@ -235,17 +268,13 @@ impl<R: LentReaders> Reader<'_, R> {
                 let begins = what_begins(token);
                 let operand = nested!(
                     shared,
-                    self.parse_written(shared, frame, settings, begins)
+                    self.parse_rare(shared, frame, settings, begins)
                 )?;
                 let alloc = self.engine.alloc();
                 sign_operand(alloc, &mut shared.interner, sign, pos, operand)
             }
             Beginning::Value | Beginning::Name | Beginning::Word => {
-                let primary = nested!(
-                    shared,
-                    self.parse_primary(shared, frame, settings, begins)
-                )?;
-                self.parse_ends(shared, frame, settings, primary)
+                self.parse_plain(shared, frame, settings, begins)
             }
             _ => {
                 let primary = self

@@ -16,8 +16,8 @@ use Rattle.rhai_reading.proofs.Outcomes.{answer_given, outcome}
 use Rattle.rhai_reading.proofs.Steps.{nested_done, nested_gives}
 use Rattle.rhai_expressions.proofs.ExprReaders as rule
 use Rattle.rhai_expressions.proofs.OperandLemmas.{Signed, operand_begun, operand_fails, sign_is_no_end, signed_fails, signed_so}
-use Rattle.rhai_expressions.proofs.reader.Reader.+parse_written.Goals as goal
-use Rattle.rhai_expressions.proofs.reader.Reader.+parse_written.Goals.{In_default}
+use Rattle.rhai_expressions.proofs.reader.Reader.+parse_rare.Goals as goal
+use Rattle.rhai_expressions.proofs.reader.Reader.+parse_rare.Goals.{In_default}
 
 pub returns-in_ok-operand-in-Sign : goal.returns-in_ok-operand-in-Sign
 returns-in_ok-operand-in-Sign g t c = record {
@@ -36,8 +36,8 @@ returns-in_ok-operand-in-Sign g t c = record {
       let signed : Signed context deeper s = record {
         readable = c.requires.readable;
         sign = sign;
-        room = grind (arith, rule.parse_written);
-        deeper = grind (arith, rule.parse_written);
+        room = grind (arith, rule.parse_rare);
+        deeper = grind (arith, rule.parse_rare);
         shrinks = grind arith;
       } in
       let entered : state_of c.nested-enter.new.self ≡ entering (after_peek (after_take s)) = grind arith in
@@ -63,43 +63,13 @@ returns-in_err-operand-in-Sign g t c = record {
       let signed : Signed context deeper s = record {
         readable = c.requires.readable;
         sign = sign;
-        room = grind (arith, rule.parse_written);
-        deeper = grind (arith, rule.parse_written);
+        room = grind (arith, rule.parse_rare);
+        deeper = grind (arith, rule.parse_rare);
         shrinks = grind arith;
       } in
       let entered : state_of c.nested-enter.new.self ≡ entering (after_peek (after_take s)) = grind arith in
       rw (p.1, p.2) (signed_fails context deeper live s signed _ (state_of c.nested-leave.new.self)
       (nested_gives chain_view _ _ _ _ _ (Err _) entered c.in_err-operand-in-Sign.ensures.reads c.nested-leave.ensures.leaves));
-}
-
-pub returns-in_ok-primary-in-Value : goal.returns-in_ok-primary-in-Value
-returns-in_ok-primary-in-Value g t c = record {
-  goes_on = grind arith;
-  stays = grind arith;
-  reads =
-        let s = state_of c.args.shared.now in
-      let engine = c.args.self.now.engine.now in
-      let context = context_of engine c.args.frame.now c.args.settings in
-      let unsigned : is_sign (beginning (next_item s).lexeme) ≡ false = grind arith in
-      let entered : state_of c.nested-enter-in-Value.new.self ≡ entering (after_peek s) = grind arith in
-      gives_so chain_view c.parse_ends.result (state_of c.parse_ends.new.shared)
-      (operand_begun context (live_of c.args.frame.now) (chain_view c.in_ok-primary-in-Value.primary) s (state_of c.nested-leave-in-Value.new.self) c.requires.readable unsigned
-      (nested_done (result_of (primary engine c.args.frame.now c.args.settings)) (after_peek s) entered c.in_ok-primary-in-Value.ensures.reads c.nested-leave-in-Value.ensures.leaves))
-      (c.parse_ends.ensures.reads s (grind arith));
-}
-
-pub returns-in_err-primary-in-Value : goal.returns-in_err-primary-in-Value
-returns-in_err-primary-in-Value g t c = record {
-  goes_on = grind arith;
-  stays = grind arith;
-  reads =
-        let p = err_from_is_err_and c.from_residual-in_err-primary-in-Value.result c.from_residual-in_err-primary-in-Value.ensures.1 in
-      let s = state_of c.args.shared.now in
-      let context = context_of c.args.self.now.engine.now c.args.frame.now c.args.settings in
-      let unsigned : is_sign (beginning (next_item s).lexeme) ≡ false = grind arith in
-      let entered : state_of c.nested-enter-in-Value.new.self ≡ entering (after_peek s) = grind arith in
-      rw (p.1, p.2) (operand_fails context (live_of c.args.frame.now) s c.requires.readable unsigned _ (state_of c.nested-leave-in-Value.new.self)
-      (nested_gives chain_view _ _ _ _ _ (Err _) entered c.in_err-primary-in-Value.ensures.reads c.nested-leave-in-Value.ensures.leaves));
 }
 
 pub returns-in_ok-primary-in_default : goal.returns-in_ok-primary-in_default
