@@ -6,7 +6,6 @@ pub(crate) mod runs;
 
 ghost use Rattle.std.specs.Prelude.{◌≡◌, ◌≤◌, [], false, true};
 ghost use Rattle.rhai_lower.specs.Nodes.{no_nodes};
-ghost use Rattle.rhai_lower.specs.View.{view};
 ghost use Rattle.rhai_grammar.specs.Beginnings.{beginning};
 ghost use Rattle.rhai_grammar.specs.Cursors.{left};
 ghost use Rattle.rhai_grammar.specs.Delivered.{is_memory};
@@ -237,10 +236,7 @@ impl<R: LentReaders> Reader<'_, R> {
         requires lent { Covers (R.lent self.now.readers) (operand self.now.engine.now frame.now settings) shared.old }
         ensures { ReadsAs self.now.engine.now frame.now settings 3 operand chain_view shared.old result shared.new }
     {
-        let primary = nested!(
-            shared,
-            self.parse_primary(shared, frame, settings, begins)
-        )?;
+        let primary = nested!(shared, self.parse_primary(shared, frame, settings, begins))?;
         self.parse_ends(shared, frame, settings, primary)
     }
 
@@ -266,10 +262,7 @@ impl<R: LentReaders> Reader<'_, R> {
                 let settings = settings.at(pos).level_up()?;
                 let (token, _) = peek(shared.input)?;
                 let begins = what_begins(token);
-                let operand = nested!(
-                    shared,
-                    self.parse_rare(shared, frame, settings, begins)
-                )?;
+                let operand = nested!(shared, self.parse_rare(shared, frame, settings, begins))?;
                 let alloc = self.engine.alloc();
                 sign_operand(alloc, &mut shared.interner, sign, pos, operand)
             }

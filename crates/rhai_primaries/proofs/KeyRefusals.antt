@@ -1,5 +1,5 @@
 -- Keys of object maps that are refused, as the reading program refuses them.
-use Rattle.std.proofs.Common.{◌≡◌, ◌∙◌, true, false, ap, sym, if◌then◌else◌}
+use Rattle.std.proofs.Common.{◌≡◌, ◌∙◌, false, ap, sym, if◌then◌else◌}
 use Rattle.rhai_lower.specs.Nodes.{Properties}
 use Rattle.rhai_grammar.specs.Causes.{DuplicatedProperty, Refusal, out_of_memory, refusal}
 use Rattle.rhai_grammar.specs.Contexts.{Context}

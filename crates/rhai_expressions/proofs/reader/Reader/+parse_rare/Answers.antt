@@ -1,12 +1,10 @@
-use Rattle.std.proofs.Common.{◌≡◌, ◌∙◌, Err, ap, arith, false, refl, subst, sym, true}
+use Rattle.std.proofs.Common.{◌≡◌, ◌∙◌, Err, ap, arith, false, subst, sym, true}
 use Rattle.std.proofs.lemmas.Result.{err_from_is_err_and}
 use Rattle.rhai_lower.specs.Lexemes.{lexeme}
 use Rattle.rhai_trees.specs.Chains.{chain_view}
 use Rattle.rhai_grammar.specs.Beginnings.{beginning, is_sign}
 use Rattle.rhai_grammar.specs.Delivered.{Item}
 use Rattle.rhai_grammar.specs.Signs.{sign_result}
-use Rattle.rhai_grammar.specs.declared.role.Beginning.{Beginning}
-use Rattle.rhai_grammar.specs.declared.role.Beginning.TheVariants as begin
 use Rattle.rhai_reading.specs.Running as R
 use Rattle.rhai_reading.specs.Running.{after_peek, after_take, entering, nested, next_item, result_of}
 use Rattle.rhai_readers.proofs.Given.{gives_so}
@@ -17,14 +15,13 @@ use Rattle.rhai_reading.proofs.Steps.{nested_done, nested_gives}
 use Rattle.rhai_expressions.proofs.ExprReaders as rule
 use Rattle.rhai_expressions.proofs.OperandLemmas.{Signed, operand_begun, operand_fails, sign_is_no_end, signed_fails, signed_so}
 use Rattle.rhai_expressions.proofs.reader.Reader.+parse_rare.Goals as goal
-use Rattle.rhai_expressions.proofs.reader.Reader.+parse_rare.Goals.{In_default}
 
 pub returns-in_ok-operand-in-Sign : goal.returns-in_ok-operand-in-Sign
 returns-in_ok-operand-in-Sign g t c = record {
   goes_on = grind arith;
   stays = grind arith;
   reads =
-        let s = state_of c.args.shared.now in
+      let s = state_of c.args.shared.now in
       let left = state_of c.nested-leave.new.self in
       let engine = c.args.self.now.engine.now in
       let context = context_of engine c.args.frame.now c.args.settings in
@@ -52,7 +49,7 @@ returns-in_err-operand-in-Sign g t c = record {
   goes_on = grind arith;
   stays = grind arith;
   reads =
-        let p = err_from_is_err_and c.from_residual-in_err-operand-in-Sign.result c.from_residual-in_err-operand-in-Sign.ensures.1 in
+      let p = err_from_is_err_and c.from_residual-in_err-operand-in-Sign.result c.from_residual-in_err-operand-in-Sign.ensures.1 in
       let s = state_of c.args.shared.now in
       let engine = c.args.self.now.engine.now in
       let context = context_of engine c.args.frame.now c.args.settings in
@@ -77,7 +74,7 @@ returns-in_ok-primary-in_default g t c = record {
   goes_on = grind arith;
   stays = grind arith;
   reads =
-        let s = state_of c.args.shared.now in
+      let s = state_of c.args.shared.now in
       let engine = c.args.self.now.engine.now in
       let context = context_of engine c.args.frame.now c.args.settings in
       let unsigned : is_sign (beginning (next_item s).lexeme) ≡ false = grind arith in
@@ -92,7 +89,7 @@ returns-in_err-primary-in_default g t c = record {
   goes_on = grind arith;
   stays = grind arith;
   reads =
-        let p = err_from_is_err_and c.from_residual-in_err-primary-in_default.result c.from_residual-in_err-primary-in_default.ensures.1 in
+      let p = err_from_is_err_and c.from_residual-in_err-primary-in_default.result c.from_residual-in_err-primary-in_default.ensures.1 in
       let s = state_of c.args.shared.now in
       let context = context_of c.args.self.now.engine.now c.args.frame.now c.args.settings in
       let unsigned : is_sign (beginning (next_item s).lexeme) ≡ false = grind arith in

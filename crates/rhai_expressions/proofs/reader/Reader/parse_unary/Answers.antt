@@ -2,7 +2,7 @@ use Rattle.std.proofs.Common.{◌≡◌, ◌∙◌, Err, Ok, ap, arith, refl, sy
 use Rattle.rhai_trees.specs.Chains.{chain_view}
 use Rattle.rhai_grammar.specs.Beginnings.{beginning}
 use Rattle.rhai_reading.specs.Reading.{Primary}
-use Rattle.rhai_reading.specs.Running.{next_item, entering, after_peek, nested, result_of}
+use Rattle.rhai_reading.specs.Running.{next_item, entering, after_peek, result_of}
 use Rattle.rhai_reading.specs.Running as R
 use Rattle.rhai_reading.proofs.Steps.{looked, nested_done}
 use Rattle.rhai_readers.proofs.Given.{gives_so}
