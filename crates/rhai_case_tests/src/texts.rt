@@ -103,6 +103,44 @@ fn read_next(
     Ok(compile_global_level(alloc, engine, text, Limits::NONE, Some(scope), lib)?)
 }
 
+// Wants this answer to a text, with what was known before it.
+fn check_next(
+    rt: &impl Abort,
+    alloc: Global,
+    engine: &Engine,
+    (text, wanted): (&str, &str),
+    scope: &Scope,
+    lib: &mut FnLib,
+) -> Result<(), AllocError> {
+    let answer = read_next(alloc, engine, text, scope, lib);
+    check(rt, alloc, answer, wanted)
+}
+
+// What a host has of a first text.
+fn check_first(rt: &impl Abort, one: &GlobalLevel, lib: &FnLib) {
+    assert!(rt; one.functions.len() == 2 && lib.len() == 2 && one.scope.len() == 1);
+    assert!(rt; one.imports.len() == 1 && one.spans.len() == 20 && one.nest_peak > 0);
+}
+
+// The texts that follow: a refused one leaves its first function, and what is known decides the others.
+fn go_on(
+    rt: &impl Abort,
+    alloc: Global,
+    engine: &Engine,
+    scope: &Scope,
+    lib: &mut FnLib,
+) -> Result<(), AllocError> {
+    let refused = (
+        "fn g() { 1 } fn f() { 2 }",
+        "E28 1:14 FnDuplicatedDefinition f 0",
+    );
+    check_next(rt, alloc, engine, refused, scope, lib)?;
+    assert!(rt; lib.len() == 3);
+    check_next(rt, alloc, engine, ("g() + a", "accepted"), scope, lib)?;
+    let unknown = ("a", "E18 1:1 VariableUndefined a");
+    check_next(rt, alloc, engine, unknown, &Scope::new(alloc), lib)
+}
+
 #[test]
 fn a_host_goes_on(rt: HostRuntime) -> Result<(), Fail> {
     let alloc = rt.alloc();
@@ -113,16 +151,8 @@ fn a_host_goes_on(rt: HostRuntime) -> Result<(), Fail> {
     let Ok(one) = read_next(alloc, &engine, text, &nothing, &mut lib) else {
         return Err("the first text is refused")?;
     };
-    assert!(rt; one.functions.len() == 2 && lib.len() == 2 && one.scope.len() == 1);
-    assert!(rt; one.imports.len() == 1 && one.spans.len() == 20 && one.nest_peak > 0);
-    let text = "fn g() { 1 } fn f() { 2 }";
-    let two = read_next(alloc, &engine, text, &one.scope, &mut lib);
-    check(&rt, alloc, two, "E28 1:14 FnDuplicatedDefinition f 0")?;
-    assert!(rt; lib.len() == 3);
-    let three = read_next(alloc, &engine, "g() + a", &one.scope, &mut lib);
-    check(&rt, alloc, three, "accepted")?;
-    let four = read_next(alloc, &engine, "a", &nothing, &mut lib);
-    check(&rt, alloc, four, "E18 1:1 VariableUndefined a")?;
+    check_first(&rt, &one, &lib);
+    go_on(&rt, alloc, &engine, &one.scope, &mut lib)?;
     Ok(())
 }
 

@@ -3,7 +3,5 @@ pub mod LookedLemmas
 pub mod ExprReaders
 pub mod RunLemmas
 pub mod PrimaryLemmas
-pub mod ClosureLemmas
-pub mod KeyLemmas
 pub mod PrimaryReaders
 pub mod OperandLemmas

@@ -3,11 +3,9 @@
 use Rattle.std.proofs.Common.{◌≡◌, Bool, List, None, Result, true, false, ◌&&◌, Ok, Err, refl, sym, ap, ◌∙◌, if◌then◌else◌}
 use Rattle.rhai_lower.specs.Texts.{Text}
 use Rattle.rhai_lower.specs.Lexemes.{Lexeme}
-use Rattle.rhai_lower.specs.Nodes.{Node, Properties, this}
+use Rattle.rhai_lower.specs.Nodes.{Node, this}
 use Rattle.rhai_lower.specs.declared.position.Position.{Position}
-use Rattle.rhai_grammar.specs.Causes.{Refusal, Reserved, VariableUndefined, out_of_memory, refusal, DuplicatedProperty}
-use Rattle.rhai_grammar.specs.Cursors.{Cursor}
-use Rattle.rhai_grammar.specs.Delivered.{is_memory}
+use Rattle.rhai_grammar.specs.Causes.{Refusal, Reserved, VariableUndefined, refusal}
 use Rattle.rhai_grammar.specs.Contexts.{Context, Known, Live}
 use Rattle.rhai_grammar.specs.Beginnings.{calls, excludes_use, is_sign, is_this, is_value, may_be_called}
 use Rattle.rhai_grammar.specs.declared.role.Beginning.{Beginning}
@@ -19,15 +17,10 @@ use Rattle.rhai_trees.proofs.LinkedLemmas.{given_where, this_value, variable_val
 use Rattle.rhai_trees.specs.Linked.{is_linked}
 use Rattle.rhai_grammar.specs.declared.role.Beginning.TheVariants as begin
 use Rattle.rhai_grammar.specs.Uses.{Use, noted}
-use Rattle.rhai_reading.specs.Reading.{Ret, Fail, Know, Note, Primary, name_at, word_at, Peek, NextKey, match_token, key_on, room_at}
+use Rattle.rhai_reading.specs.Reading.{Ret, Fail, Know, Note, Primary, name_at, word_at}
 use Rattle.rhai_reading.specs.Running as R
-use Rattle.rhai_reading.specs.Running.{Caller, Progress, next_item, exec, guarded, after_peek, result_of, after_take, with_captured}
-use Rattle.rhai_reading.proofs.Steps.{step_next_key}
+use Rattle.rhai_reading.specs.Running.{Caller, Progress, next_item, exec, guarded, result_of, with_captured}
 use Rattle.rhai_base.specs.Words.{name_result, no_this, word_result}
-use Rattle.rhai_grammar.specs.declared.due.DueToken.TheVariants as due
-use Rattle.rhai_grammar.specs.Literals.{KeyRole, FieldsEnd, AKey, NoKey, has_key}
-use Rattle.rhai_grammar.specs.Verdicts.{next_key}
-use Rattle.rhai_expressions.specs.MapKeys.{KeyRefused}
 use Rattle.rhai_reading.proofs.Outcomes.{answered, exec_answered, outcome}
 use Rattle.rhai_reading.proofs.WordSteps.{Worded, worded}
 
@@ -110,28 +103,3 @@ pub named : (c : Context) (w : Live) {name : Text} {at : Position} {excluded : B
     → Worded begin.Name excludes_use name at excluded s s1 s2 t
     → result_of (Primary c w) s ≡ exec (guarded (Primary c w) s) (name_at c w name at (next_item s2).lexeme t.library) t
 named c w h = worded c w (λ x p l q. Know (name_at c w x p l)) (λ l p. refl) h
-
--- ---- keys
-
--- the state with this cursor
-abbrev at : Progress → Cursor → Progress
-at s t = record s { cursor = t }
-
-refused_at : (call : Caller) (c : Context) (before : Properties) (s : Progress) (place : KeyRole) (e : Refusal) (t : Cursor) → is_memory (next_item s).lexeme ≡ false → KeyRefused before s.cursor place e t → exec call (key_on c before (next_item s).at place) (after_peek s) ≡ R.Refused e (at s t)
-refused_at call c before s FieldsEnd e t readable h = absurd h
-refused_at call c before s (NoKey why) e t readable h = ap (λ d. R.Refused d (after_peek s)) (sym h.0) ∙ ap (λ u. R.Refused e (at s u)) (sym h.1)
-refused_at call c before s (AKey key) e t readable h =
-    let p = (next_item s).at in
-    let duplicated = refusal (DuplicatedProperty key) p in
-    ap (λ m. if m then R.Refused out_of_memory (after_peek (after_peek s)) else exec call (if has_key key before then Fail duplicated else match_token due.Colon (Peek (room_at c before key p))) (after_take s)) readable
-    ∙ ap (λ b. exec call (if b then Fail duplicated else match_token due.Colon (Peek (room_at c before key p))) (after_take s)) h.0
-    ∙ ap (λ d. R.Refused d (after_take s)) (sym h.1)
-    ∙ ap (λ u. R.Refused e (at s u)) (sym h.2)
-
--- a key that is refused
-pub key_refused : (c : Context) (before : Properties) (s : Progress) (t : Cursor) (e : Refusal) → is_memory (next_item s).lexeme ≡ false → KeyRefused before s.cursor (next_key c.settings before (next_item s).lexeme) e t → result_of (NextKey c before) s ≡ R.Refused e (at s t)
-key_refused c before s t e readable h =
-    let k = NextKey c before in
-    step_next_key c before s
-    ∙ ap (λ m. if m then R.Refused out_of_memory (after_peek s) else exec (guarded k s) (key_on c before (next_item s).at (next_key c.settings before (next_item s).lexeme)) (after_peek s)) readable
-    ∙ refused_at (guarded k s) c before s (next_key c.settings before (next_item s).lexeme) e t readable h

@@ -1,7 +1,4 @@
 pub mod NextOperators
 pub mod Runs
 pub mod ExprViews
-pub mod Closures
-pub mod MapKeys
 pub mod Operands
-pub mod PlainPrimaries

@@ -6,18 +6,18 @@ pub(crate) mod runs;
 
 ghost use Rattle.std.specs.Prelude.{◌≡◌, ◌≤◌, [], false, true};
 ghost use Rattle.rhai_lower.specs.Nodes.{no_nodes};
-ghost use Rattle.rhai_lower.specs.View.{view};
-ghost use Rattle.rhai_grammar.specs.Beginnings.{beginning, is_sign};
+ghost use Rattle.rhai_grammar.specs.Beginnings.{beginning};
 ghost use Rattle.rhai_grammar.specs.Cursors.{left};
 ghost use Rattle.rhai_grammar.specs.Delivered.{is_memory};
 ghost use Rattle.rhai_leaves.specs.OperandEnds.{ends_operand};
 ghost use Rattle.rhai_reading.specs.Running.{Done, Gives, Progress, next_item, exec, guarded, after_peek, result_of};
 ghost use Rattle.rhai_readers.specs.Frames.{context_of, live_of};
 ghost use Rattle.rhai_expressions.specs.Operands.{operand_ends};
-ghost use Rattle.rhai_readers.specs.Readers.{Covers, GoesOn, Reads, ReadsAs, arguments, expression, items, links};
+ghost use Rattle.rhai_readers.specs.Readers.{Covers, GoesOn, ReadsAs, arguments, expression, items, links};
 ghost use Rattle.rhai_readers.specs.Readers.{operand, postfix};
 ghost use Rattle.rhai_readers.specs.Readers.{right_operand, state_of, views_of};
 ghost use Rattle.rhai_readers.specs.Heights.{Stays};
+ghost use Rattle.rhai_readers.specs.PlainPrimaries.{is_plain};
 ghost use Rattle.rhai_trees.specs.Chains.{chain_view};
 
 use crate::expr::asks::{as_variable, end_operand, end_plain, ends_here, sign_operand};
@@ -27,11 +27,11 @@ use crate::reader::Reader;
 use rhai_base::modules::test_path;
 use rhai_base::words::{is_qualified_name, make_call};
 use rhai_base::{Frame, ParseSettings};
-use rhai_grammar::{CommaList, OperandRole, OperandStart, ParseResult};
+use rhai_grammar::{Beginning, CommaList, OperandRole, OperandStart, ParseResult};
 use rhai_leaves::cursor::{peek, skip, take};
 use rhai_leaves::lists::{closes_list, list_continues};
 use rhai_leaves::refusals::missing;
-use rhai_leaves::tokens::{excludes_use, is_no_argument, is_sign, is_value, what_operand};
+use rhai_leaves::tokens::{excludes_use, is_no_argument, what_begins, what_operand};
 use rhai_lower::Expr;
 use rhai_readers::{LentReaders, Shared, nested};
 use rhai_trees::{Chain, make_statement_value};
@@ -163,9 +163,7 @@ impl<R: LentReaders> Reader<'_, R> {
     ) -> ParseResult<Chain>
         requires lent { Covers (R.lent self.now.readers) (right_operand place self.now.engine.now frame.now settings)
             shared.old }
-        ensures goes_on { GoesOn shared.old shared.new }
-        ensures stays { Stays self.now.engine.now frame.now settings 4 shared.old shared.new }
-        ensures reads { Reads (right_operand place self.now.engine.now frame.now settings) chain_view shared.old
+        ensures { ReadsAs self.now.engine.now frame.now settings 4 (right_operand place) chain_view shared.old
             result shared.new }
     {
         let alloc = self.engine.alloc();
@@ -187,8 +185,8 @@ impl<R: LentReaders> Reader<'_, R> {
         }
     }
 
-    /// Reads a written operand with its signs and its call. A value is read here, and any other operand apart, since a
-    /// function clears all its locals when it begins.
+    /// Reads a written operand with its signs and its call. Its first token is classified here, and nowhere below. A
+    /// value is read here, and any other operand apart, since a function clears all its locals when it begins.
     #[inline(always)]
     #[tactic(auto, using(crate::proofs::ExprReaders::parse_unary))]
     fn parse_unary(
@@ -201,65 +199,83 @@ impl<R: LentReaders> Reader<'_, R> {
         ensures { ReadsAs self.now.engine.now frame.now settings 3 operand chain_view shared.old result shared.new }
     {
         let (token, _) = peek(shared.input)?;
-        if !is_value(token) {
-            return match self.parse_written(shared, frame, settings) {
+        let begins = what_begins(token);
+        match begins {
+            Beginning::Value => {
+                let value = nested!(shared, take_value(shared))?;
+                let operand = Chain::from_value(self.engine.alloc(), value);
+                self.parse_ends(shared, frame, settings, operand)
+            }
+            Beginning::Name | Beginning::Word => {
+                match self.parse_plain(shared, frame, settings, begins) {
+                    Ok(operand) => Ok(operand),
+                    Err(error) => Err(error),
+                }
+            }
+            _ => match self.parse_rare(shared, frame, settings, begins) {
                 Ok(operand) => Ok(operand),
                 Err(error) => Err(error),
-            };
+            },
         }
-        let value = nested!(shared, take_value(shared))?;
-        let operand = Chain::from_value(self.engine.alloc(), value);
-        self.parse_ends(shared, frame, settings, operand)
     }
 
-    // The same, of an operand that need be no value.
+    // The same, of an operand that is one token, as the caller has seen.
     #[inline(never)]
-    #[tactic(auto, using(crate::proofs::ExprReaders::parse_written))]
-    fn parse_written(
+    #[tactic(auto, using(crate::proofs::ExprReaders::parse_unary))]
+    fn parse_plain(
         &self,
         shared: &mut Shared<'_>,
         frame: &Frame<'_>,
         settings: ParseSettings,
+        begins: Beginning,
     ) -> ParseResult<Chain>
-        requires lent { Covers (R.lent self.now.readers) (operand self.now.engine.now frame.now settings) shared.old }
-        ensures goes_on { GoesOn shared.old shared.new }
-        ensures stays { Stays self.now.engine.now frame.now settings 3 shared.old shared.new }
-        ensures reads { Reads (operand self.now.engine.now frame.now settings) chain_view shared.old result
-            shared.new }
-    {
-        let (token, _) = peek(shared.input)?;
-        if !is_sign(token) {
-            return self.parse_unsigned(shared, frame, settings);
-        }
-        let (sign, pos) = take(shared.input);
-        let settings = settings.at(pos).level_up()?;
-        let operand = nested!(shared, self.parse_written(shared, frame, settings))?;
-        sign_operand(
-            self.engine.alloc(),
-            &mut shared.interner,
-            sign,
-            pos,
-            operand,
-        )
-    }
-
-    /// Reads a written operand without a sign, with its call and its links. The caller has seen that no sign comes
-    /// next.
-    #[inline(always)]
-    #[tactic(auto, using(crate::proofs::ExprReaders::parse_unsigned))]
-    fn parse_unsigned(
-        &self,
-        shared: &mut Shared<'_>,
-        frame: &Frame<'_>,
-        settings: ParseSettings,
-    ) -> ParseResult<Chain>
-        requires unsigned { is_sign (beginning (next_item (state_of shared.old)).lexeme) ≡ false }
+        requires begins { begins ≡ beginning (next_item (state_of shared.old)).lexeme }
+        requires plain { is_plain begins ≡ true }
+        requires looked { state_of shared.old ≡ after_peek (state_of shared.old) }
+        requires readable { is_memory (next_item (state_of shared.old)).lexeme ≡ false }
         requires lent { Covers (R.lent self.now.readers) (operand self.now.engine.now frame.now settings) shared.old }
         ensures { ReadsAs self.now.engine.now frame.now settings 3 operand chain_view shared.old result shared.new }
     {
-        peek(shared.input)?;
-        let primary = nested!(shared, self.parse_primary(shared, frame, settings))?;
+        let primary = nested!(shared, self.parse_primary(shared, frame, settings, begins))?;
         self.parse_ends(shared, frame, settings, primary)
+    }
+
+    // The same, of any operand. This is apart, since few operands are no single token.
+    #[inline(never)]
+    #[tactic(auto, using(crate::proofs::ExprReaders::parse_rare))]
+    fn parse_rare(
+        &self,
+        shared: &mut Shared<'_>,
+        frame: &Frame<'_>,
+        settings: ParseSettings,
+        begins: Beginning,
+    ) -> ParseResult<Chain>
+        requires begins { begins ≡ beginning (next_item (state_of shared.old)).lexeme }
+        requires looked { state_of shared.old ≡ after_peek (state_of shared.old) }
+        requires readable { is_memory (next_item (state_of shared.old)).lexeme ≡ false }
+        requires lent { Covers (R.lent self.now.readers) (operand self.now.engine.now frame.now settings) shared.old }
+        ensures { ReadsAs self.now.engine.now frame.now settings 3 operand chain_view shared.old result shared.new }
+    {
+        match begins {
+            Beginning::Sign => {
+                let (sign, pos) = take(shared.input);
+                let settings = settings.at(pos).level_up()?;
+                let (token, _) = peek(shared.input)?;
+                let begins = what_begins(token);
+                let operand = nested!(shared, self.parse_rare(shared, frame, settings, begins))?;
+                let alloc = self.engine.alloc();
+                sign_operand(alloc, &mut shared.interner, sign, pos, operand)
+            }
+            Beginning::Value | Beginning::Name | Beginning::Word => {
+                self.parse_plain(shared, frame, settings, begins)
+            }
+            _ => {
+                let primary = self
+                    .readers
+                    .parse_compound(self.engine, shared, frame, settings)?;
+                self.parse_all_ends(shared, frame, settings, primary)
+            }
+        }
     }
 
     // Nothing calls an operand before this token, and it is no part of a path.

@@ -1,49 +1,43 @@
-//! Readers of primaries: operands without signs, calls and links. One is a value, a name, a group, an array, an object
-//! map, a string, a construct, or a closure.
+//! The reader of primaries of one token: a value, a name, a word. A primary is an operand without signs, calls and
+//! links.
 
 pub(crate) mod asks;
-pub(crate) mod closure;
-pub(crate) mod keys;
-pub(crate) mod literals;
 
-ghost use Rattle.std.specs.Prelude.{◌≡◌, false};
+ghost use Rattle.std.specs.Prelude.{◌≡◌, true};
 ghost use Rattle.rhai_grammar.specs.Beginnings.{beginning};
-ghost use Rattle.rhai_readers.specs.Readers.{GoesOn, Reads, ReadsAs, state_of};
-ghost use Rattle.rhai_readers.specs.Heights.{Stays};
+ghost use Rattle.rhai_readers.specs.Readers.{ReadsAs, primary, state_of};
 ghost use Rattle.rhai_reading.specs.Running.{next_item};
-ghost use Rattle.rhai_expressions.specs.PlainPrimaries.{is_plain};
-ghost use Rattle.rhai_readers.specs.Readers.{Covers, primary};
+ghost use Rattle.rhai_readers.specs.PlainPrimaries.{is_plain};
 ghost use Rattle.rhai_trees.specs.Chains.{chain_view};
 
 use crate::primary::asks::{take_value, used_name, used_word};
 use crate::reader::Reader;
-use rhai_base::allowed::{may_be_closure, may_be_value};
 use rhai_base::{Frame, ParseSettings};
-use rhai_grammar::{Beginning, DueToken, ParseResult};
+use rhai_grammar::{Beginning, ParseResult};
 use rhai_leaves::cursor::{peek, skip};
-use rhai_leaves::due::match_token;
-use rhai_leaves::refusals::no_operand;
-use rhai_leaves::tokens::{excludes_use, is_called, what_begins};
-use rhai_lower::Expr;
-use rhai_readers::{LentReaders, Shared, nested};
-use rhai_trees::{Chain, make_statement_value};
+use rhai_leaves::tokens::{excludes_use, is_called};
+use rhai_readers::{LentReaders, Shared};
+use rhai_trees::Chain;
 
 impl<R: LentReaders> Reader<'_, R> {
-    /// Reads an operand without its sign, and without what calls it: a chain where it is a group.
+    /// Reads an operand of one token, without its sign and without what calls it. The caller has seen that it
+    /// begins so.
     #[tactic(auto, using(crate::proofs::PrimaryReaders::parse_primary))]
-    pub fn parse_primary(
+    pub(crate) fn parse_primary(
         &self,
         shared: &mut Shared<'_>,
         frame: &Frame<'_>,
         settings: ParseSettings,
+        begins: Beginning,
     ) -> ParseResult<Chain>
-        requires lent { Covers (R.lent self.now.readers) (primary self.now.engine.now frame.now settings) shared.old }
-        ensures { ReadsAs self.now.engine.now frame.now settings 1 primary chain_view shared.old result shared.new }
+        requires begins { begins ≡ beginning (next_item (state_of shared.old)).lexeme }
+        requires plain { is_plain begins ≡ true }
+        ensures { ReadsAs self.now.engine.now frame.now settings 0 primary chain_view shared.old result shared.new }
     {
         let alloc = self.engine.alloc();
         let (token, pos) = peek(shared.input)?;
         let pos = *pos;
-        match what_begins(token) {
+        match begins {
             Beginning::Value => {
                 let value = take_value(shared)?;
                 Ok(Chain::from_value(alloc, value))
@@ -60,95 +54,7 @@ impl<R: LentReaders> Reader<'_, R> {
                 let called = is_called(shared.input)?;
                 used_word(alloc, settings, word, called, pos)
             }
-            Beginning::Group
-            | Beginning::Array
-            | Beginning::Map
-            | Beginning::Interpolated
-            | Beginning::Construct(_)
-            | Beginning::Closure(_)
-            | Beginning::Sign
-            | Beginning::Range
-            | Beginning::Nothing => self.parse_compound(shared, frame, settings),
-        }
-    }
-
-    // Reads an operand that is not one token. It is apart from the operands that are, since these are many, and each
-    // local of a function costs time whenever the function is called.
-    #[inline(never)]
-    #[tactic(auto, using(crate::proofs::PrimaryReaders::parse_primary))]
-    fn parse_compound(
-        &self,
-        shared: &mut Shared<'_>,
-        frame: &Frame<'_>,
-        settings: ParseSettings,
-    ) -> ParseResult<Chain>
-        requires compound { is_plain (beginning (next_item (state_of shared.old)).lexeme) ≡ false }
-        requires lent { Covers (R.lent self.now.readers) (primary self.now.engine.now frame.now settings) shared.old }
-        ensures goes_on { GoesOn shared.old shared.new }
-        ensures stays { Stays self.now.engine.now frame.now settings 1 shared.old shared.new }
-        ensures reads { Reads (primary self.now.engine.now frame.now settings) chain_view shared.old result
-            shared.new }
-    {
-        let alloc = self.engine.alloc();
-        let (token, pos) = peek(shared.input)?;
-        let pos = *pos;
-        match what_begins(token) {
-            Beginning::Group => {
-                skip(shared.input);
-                let deeper = settings.at(pos).level_up()?;
-                let inside = self
-                    .readers
-                    .parse_chain(self.engine, shared, frame, deeper)?;
-                let note = "to close the parentheses";
-                match_token(alloc, shared.input, DueToken::RightParen, note)?;
-                Ok(inside)
-            }
-            Beginning::Array => {
-                skip(shared.input);
-                let deeper = settings.at(pos).level_up()?;
-                let items = self.parse_array_literal(shared, frame, deeper)?;
-                Ok(Chain::from_value(alloc, Expr::Array(items, pos)))
-            }
-            Beginning::Map => {
-                skip(shared.input);
-                let deeper = settings.at(pos).level_up()?;
-                let properties = self.parse_map_literal(shared, frame, deeper)?;
-                Ok(Chain::from_value(alloc, Expr::Map(properties, pos)))
-            }
-            Beginning::Interpolated => {
-                let first = token.text(alloc)?;
-                skip(shared.input);
-                let deeper = settings.at(pos).level_up()?;
-                let segments = self.parse_interpolated_string(shared, frame, deeper, first)?;
-                let value = Expr::InterpolatedString(segments, pos);
-                Ok(Chain::from_value(alloc, value))
-            }
-            Beginning::Construct(kind) => {
-                if !may_be_value(settings, self.engine.allow_looping(), kind) {
-                    return Err(no_operand(alloc, token, pos));
-                }
-                skip(shared.input);
-                let deeper = settings.at(pos).level_up()?.level_up()?;
-                let statement = self
-                    .readers
-                    .parse_construct(self.engine, shared, frame, deeper, kind)?;
-                let value = make_statement_value(alloc, statement)?;
-                Ok(Chain::from_value(alloc, value))
-            }
-            Beginning::Closure(bars) => {
-                if !may_be_closure(settings, frame.filter(), bars) {
-                    return Err(no_operand(alloc, token, pos));
-                }
-                skip(shared.input);
-                let here = settings.at(pos);
-                nested!(shared, self.parse_closure(shared, frame, here, bars))
-            }
-            Beginning::Range => Ok(Chain::from_value(alloc, Expr::IntegerConstant(0, pos))),
-            Beginning::Value
-            | Beginning::Name
-            | Beginning::Word
-            | Beginning::Sign
-            | Beginning::Nothing => Err(no_operand(alloc, token, pos)),
+            _ => unreachable!(),
         }
     }
 }

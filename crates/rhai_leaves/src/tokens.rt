@@ -5,7 +5,7 @@ ghost use Rattle.rhai_lower.specs.Lexemes.{lexeme};
 ghost use Rattle.rhai_grammar.specs.Delivered.{is_end, is_memory};
 ghost use Rattle.rhai_grammar.specs.Cursors.{next_item, cursor_of, after_peek};
 ghost use Rattle.rhai_grammar.specs.Beginnings.{beginning, calling, calls, excludes_use, is_begun, is_call};
-ghost use Rattle.rhai_grammar.specs.Beginnings.{is_sign, is_value, omits_operand, qualifies};
+ghost use Rattle.rhai_grammar.specs.Beginnings.{omits_operand, qualifies};
 ghost use Rattle.rhai_grammar.specs.CommaLists.{no_argument};
 ghost use Rattle.rhai_leaves.specs.Closures.{EndsHere};
 ghost use Rattle.rhai_grammar.specs.Starts.{jumps, operand_start, role_after};
@@ -71,25 +71,6 @@ pub fn is_end(token: &Token) -> bool
     ensures { result ≡ is_end (lexeme token.now) }
 {
     matches!(token, Token::EOF)
-}
-
-/// Whether a token is a value where an operand is due.
-#[inline(always)]
-pub fn is_value(token: &Token) -> bool
-    ensures { result ≡ is_value (beginning (lexeme token.now)) }
-{
-    matches!(what_begins(token), Beginning::Value)
-}
-
-/// Whether a token is a sign where an operand is due.
-pub fn is_sign(token: &Token) -> bool
-    ensures sign { result ≡ is_sign (beginning (lexeme token.now)) }
-    ensures more { IsTrue result → is_end (lexeme token.now) ≡ false }
-{
-    matches!(
-        token,
-        Token::Minus | Token::UnaryMinus | Token::Plus | Token::UnaryPlus | Token::Bang
-    )
 }
 
 /// The role of the operand that is directly after this operator.

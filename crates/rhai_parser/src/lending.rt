@@ -1,14 +1,16 @@
-//! `Lent`: the readers that are lent to those of expressions and of statements.
+//! `Lent`: the readers that are lent to those of expressions, of compound operands and of statements.
 
-ghost use Rattle.std.specs.Prelude.{◌≡◌, ◌≤◌, ◌+◌, IfOk, true};
+ghost use Rattle.std.specs.Prelude.{◌≡◌, ◌≤◌, ◌+◌, IfOk, false, true};
 ghost use Rattle.rhai_lower.specs.Nodes.{no_statements};
 ghost use Rattle.rhai_lower.specs.View.{statement_view, view};
 ghost use Rattle.rhai_base.specs.Frames.{SameSurroundings};
+ghost use Rattle.rhai_grammar.specs.Beginnings.{beginning};
 ghost use Rattle.rhai_grammar.specs.Cursors.{left};
 ghost use Rattle.rhai_grammar.specs.Statements.{ends_itself};
-ghost use Rattle.rhai_reading.specs.Running.{need};
-ghost use Rattle.rhai_readers.specs.Readers.{NestsAs, ReadsAs, construct, expression, inside, state_of};
-ghost use Rattle.rhai_readers.specs.Readers.{statement, statements, statements_of, whole, with_live};
+ghost use Rattle.rhai_readers.specs.PlainPrimaries.{is_plain};
+ghost use Rattle.rhai_reading.specs.Running.{need, next_item};
+ghost use Rattle.rhai_readers.specs.Readers.{NestsAs, ReadsAs, construct, expression, inside};
+ghost use Rattle.rhai_readers.specs.Readers.{primary, state_of, statement, statements, statements_of, whole, with_live};
 ghost use Rattle.rhai_readers.specs.Heights.{function_height};
 ghost use Rattle.rhai_trees.specs.Chains.{chain_view};
 
@@ -17,17 +19,19 @@ use rhai_expressions as expressions;
 use rhai_grammar::{Closing, Construct, ParseResult};
 use rhai_leaves::due::end_due;
 use rhai_lower::{Expr, Stmt};
+use rhai_primaries as primaries;
 use rhai_readers::{Config, LentReaders, Shared, nested};
 use rhai_statements as statements;
 use rhai_trees::Chain;
 
 // Readers, each a function that is lent.
 #[derive(Drop)]
-struct Lent<E, S, C, B> {
+struct Lent<E, S, C, B, P> {
     chain: E,
     stmt: S,
     construct: C,
     inside: B,
+    compound: P,
 }
 
 // All of them.
@@ -38,16 +42,18 @@ macro_rules! lent {
             stmt: parse_stmt,
             construct: parse_construct,
             inside: parse_block_inside,
+            compound: parse_compound,
         }
     };
 }
 
-impl<E, S, C, B> LentReaders for Lent<E, S, C, B>
+impl<E, S, C, B, P> LentReaders for Lent<E, S, C, B, P>
 where
     E: Fn(&Config, &mut Shared<'_>, &Frame<'_>, ParseSettings) -> ParseResult<Chain>,
     S: Fn(&Config, &mut Shared<'_>, &mut Frame<'_>, ParseSettings) -> ParseResult<Stmt>,
     C: Fn(&Config, &mut Shared<'_>, &Frame<'_>, ParseSettings, Construct) -> ParseResult<Stmt>,
     B: Fn(&Config, &mut Shared<'_>, &Frame<'_>, ParseSettings) -> ParseResult<Vec<Stmt>>,
+    P: Fn(&Config, &mut Shared<'_>, &Frame<'_>, ParseSettings) -> ParseResult<Chain>,
 {
     ghost lent = { λ s n.
         ((engine : _) (shared : _) (frame : _) (settings : _)
@@ -74,7 +80,13 @@ where
         → need (inside engine.now frame.now settings) (state_of shared.now) ≡ n
         → B.pre s.inside engine shared frame settings
         × ((result : _) (after : _) → B.post s.inside engine shared frame settings result after
-        → NestsAs engine.now frame.now settings 3 inside statements_of shared.now result after.now)) };
+        → NestsAs engine.now frame.now settings 3 inside statements_of shared.now result after.now))
+        × ((engine : _) (shared : _) (frame : _) (settings : _)
+        → is_plain (beginning (next_item (state_of shared.now)).lexeme) ≡ false
+        → need (primary engine.now frame.now settings) (state_of shared.now) ≡ n
+        → P.pre s.compound engine shared frame settings
+        × ((result : _) (after : _) → P.post s.compound engine shared frame settings result after
+        → NestsAs engine.now frame.now settings 2 primary chain_view shared.now result after.now)) };
 
     fn parse_chain(
         &self,
@@ -129,6 +141,16 @@ where
         settings: ParseSettings,
     ) -> ParseResult<Vec<Stmt>> {
         (self.inside)(engine, shared, frame, settings)
+    }
+
+    fn parse_compound(
+        &self,
+        engine: &Config,
+        shared: &mut Shared<'_>,
+        frame: &Frame<'_>,
+        settings: ParseSettings,
+    ) -> ParseResult<Chain> {
+        (self.compound)(engine, shared, frame, settings)
     }
 }
 
@@ -202,6 +224,23 @@ fn parse_block_inside(
     let readers = lent!();
     let reader = statements::Reader { engine, readers };
     nested!(shared, reader.parse_block_inside(shared, frame, settings))
+}
+
+/// Reads an operand that is not one token, without its sign and without what calls it: a chain where it is a group.
+#[tactic(auto, using(rhai_reading::proofs::Steps::nested_so))]
+#[cycle(parser)]
+fn parse_compound(
+    engine: &Config,
+    shared: &mut Shared<'_>,
+    frame: &Frame<'_>,
+    settings: ParseSettings,
+) -> ParseResult<Chain>
+    requires compound { is_plain (beginning (next_item (state_of shared.old)).lexeme) ≡ false }
+    ensures { NestsAs engine.now frame.now settings 2 primary chain_view shared.old result shared.new }
+{
+    let readers = lent!();
+    let reader = primaries::Reader { engine, readers };
+    nested!(shared, reader.parse_compound(shared, frame, settings))
 }
 
 /// Reads an expression that the end mark follows.

@@ -3,3 +3,4 @@ pub mod Frames
 pub mod Engines
 pub mod Readers
 pub mod Heights
+pub mod PlainPrimaries

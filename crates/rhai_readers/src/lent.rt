@@ -1,13 +1,15 @@
 //! `LentReaders`: the readers that other readers call.
 
-ghost use Rattle.std.specs.Prelude.{◌≡◌, ◌≤◌, ℕ, ◌+◌, IfOk, true};
+ghost use Rattle.std.specs.Prelude.{◌≡◌, ◌≤◌, ℕ, ◌+◌, IfOk, false, true};
 ghost use Rattle.rhai_lower.specs.View.{statement_view, view};
-ghost use Rattle.rhai_readers.specs.Readers.{NestsAs, construct, expression, inside, state_of, statement};
+ghost use Rattle.rhai_readers.specs.Readers.{NestsAs, construct, expression, inside, primary, state_of, statement};
 ghost use Rattle.rhai_readers.specs.Readers.{statements_of, with_live};
 ghost use Rattle.rhai_base.specs.Frames.{SameSurroundings};
+ghost use Rattle.rhai_grammar.specs.Beginnings.{beginning};
 ghost use Rattle.rhai_grammar.specs.Cursors.{left};
 ghost use Rattle.rhai_grammar.specs.Statements.{ends_itself};
-ghost use Rattle.rhai_reading.specs.Running.{need};
+ghost use Rattle.rhai_readers.specs.PlainPrimaries.{is_plain};
+ghost use Rattle.rhai_reading.specs.Running.{need, next_item};
 ghost use Rattle.rhai_readers.specs.Heights.{function_height};
 ghost use Rattle.rhai_trees.specs.Chains.{chain_view};
 
@@ -83,4 +85,16 @@ pub trait LentReaders {
     ) -> ParseResult<Vec<Stmt>>
         requires covered { lent self.now (need (inside engine.now frame.now settings) (state_of shared.old)) }
         ensures { NestsAs engine.now frame.now settings 3 inside statements_of shared.old result shared.new };
+
+    /// Reads an operand that is not one token, without its sign and without what calls it: a chain where it is a group.
+    fn parse_compound(
+        &self,
+        engine: &Config,
+        shared: &mut Shared<'_>,
+        frame: &Frame<'_>,
+        settings: ParseSettings,
+    ) -> ParseResult<Chain>
+        requires compound { is_plain (beginning (next_item (state_of shared.old)).lexeme) ≡ false }
+        requires covered { lent self.now (need (primary engine.now frame.now settings) (state_of shared.old)) }
+        ensures { NestsAs engine.now frame.now settings 2 primary chain_view shared.old result shared.new };
 }

@@ -4,8 +4,7 @@ pub(crate) mod control;
 
 ghost use Rattle.rhai_lower.specs.View.{block_view, statement_view, view};
 ghost use Rattle.rhai_grammar.specs.declared.role.Construct.TheVariants.{Do, For, Loop, Try, While};
-ghost use Rattle.rhai_readers.specs.Readers.{Covers, GoesOn, Reads, ReadsAs, braced, branch, conditional, construct};
-ghost use Rattle.rhai_readers.specs.Heights.{Stays};
+ghost use Rattle.rhai_readers.specs.Readers.{Covers, ReadsAs, braced, branch, conditional, construct};
 ghost use Rattle.rhai_readers.specs.Readers.{guard, iterated};
 
 use crate::construct::control::{catch_frame, end_guard, end_iterated, loop_frame};
@@ -229,10 +228,7 @@ impl<R: LentReaders> Reader<'_, R> {
     ) -> ParseResult<Stmt>
         requires lent { Covers (R.lent self.now.readers) (construct For self.now.engine.now frame.now settings)
             shared.old }
-        ensures goes_on { GoesOn shared.old shared.new }
-        ensures stays { Stays self.now.engine.now frame.now settings 4 shared.old shared.new }
-        ensures reads { Reads (construct For self.now.engine.now frame.now settings) statement_view shared.old
-            result
+        ensures { ReadsAs self.now.engine.now frame.now settings 4 (construct For) statement_view shared.old result
             shared.new }
     {
         let names = next_loop_names(self.engine.alloc(), shared.input)?;

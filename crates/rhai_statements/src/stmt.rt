@@ -12,7 +12,7 @@ ghost use Rattle.rhai_readers.specs.Readers.{exported, imported};
 ghost use Rattle.rhai_grammar.specs.Cursors.{left};
 ghost use Rattle.rhai_grammar.specs.Statements.{ends_itself, statement_start};
 ghost use Rattle.rhai_readers.specs.Frames.{context_of};
-ghost use Rattle.rhai_statements.specs.RareStatements.{is_rare};
+ghost use Rattle.rhai_statements.specs.RareStatements.{is_jump, is_rare};
 ghost use Rattle.rhai_reading.specs.Running.{next_item};
 ghost use Rattle.rhai_base.specs.Frames.{SameSurroundings};
 ghost use Rattle.rhai_readers.specs.Readers.{inside, jump, state_of, statements, statements_of, with_live};
@@ -103,11 +103,61 @@ impl<R: LentReaders> Reader<'_, R> {
                 let deeper = settings.level_up()?.level_up()?;
                 nested!(shared, self.parse_construct(shared, frame, deeper, kind))
             }
+            StatementStart::Return
+            | StatementStart::Throw
+            | StatementStart::Break
+            | StatementStart::Continue => self.parse_jump_stmt(shared, frame, settings),
             _ => self.parse_keyword_stmt(shared, frame, settings),
         }
     }
 
-    // Reads a statement that is neither an expression nor a construct.
+    // Reads a `return`, `throw`, `break` or `continue`.
+    #[inline(always)]
+    #[tactic(auto, using(crate::proofs::StmtReaders::parse_stmt))]
+    fn parse_jump_stmt(
+        &self,
+        shared: &mut Shared<'_>,
+        frame: &Frame<'_>,
+        settings: ParseSettings,
+    ) -> ParseResult<Stmt>
+        requires jump { is_jump (statement_start (context_of self.now.engine.now frame.now settings)
+            (next_item (state_of shared.old)).lexeme) ≡ true }
+        requires lent { Covers (R.lent self.now.readers) (statement self.now.engine.now frame.now settings) shared.old }
+        ensures reads { ReadsAs self.now.engine.now frame.now settings
+            (1 + function_height self.now.engine.now settings) statement (with_live statement_view frame.now) shared.old
+            result shared.new }
+        ensures takes { IfOk result (λ s. ends_itself (statement_view s) ≡ true
+            → left (state_of shared.new).cursor.tokens + 1 ≤ left (state_of shared.old).cursor.tokens) }
+    {
+        let (token, pos) = peek(shared.input)?;
+        let settings = settings.at(*pos);
+        match what_starts(self.engine.allow_looping(), token) {
+            StatementStart::Return => {
+                skip(shared.input);
+                let value = nested!(shared, self.parse_jump(shared, frame, settings))?;
+                Ok(make_jump(self.engine.alloc(), value, false, settings.pos)?)
+            }
+            StatementStart::Throw => {
+                skip(shared.input);
+                let value = nested!(shared, self.parse_jump(shared, frame, settings))?;
+                Ok(make_jump(self.engine.alloc(), value, true, settings.pos)?)
+            }
+            StatementStart::Break => {
+                skip(shared.input);
+                test_loop(settings, settings.pos)?;
+                let value = nested!(shared, self.parse_jump(shared, frame, settings))?;
+                Ok(make_break(self.engine.alloc(), value, settings.pos)?)
+            }
+            StatementStart::Continue => {
+                skip(shared.input);
+                test_loop(settings, settings.pos)?;
+                Ok(make_continue(settings.pos))
+            }
+            _ => unreachable!(),
+        }
+    }
+
+    // Reads a statement that is neither an expression nor a construct nor a jump.
     #[inline(always)]
     #[tactic(auto, using(crate::proofs::StmtReaders::parse_stmt))]
     fn parse_keyword_stmt(
@@ -143,27 +193,6 @@ impl<R: LentReaders> Reader<'_, R> {
                 let deeper = settings.level_up()?;
                 nested!(shared, self.parse_let(shared, frame, deeper, true, false))
             }
-            StatementStart::Return => {
-                skip(shared.input);
-                let value = nested!(shared, self.parse_jump(shared, frame, settings))?;
-                Ok(make_jump(self.engine.alloc(), value, false, settings.pos)?)
-            }
-            StatementStart::Throw => {
-                skip(shared.input);
-                let value = nested!(shared, self.parse_jump(shared, frame, settings))?;
-                Ok(make_jump(self.engine.alloc(), value, true, settings.pos)?)
-            }
-            StatementStart::Break => {
-                skip(shared.input);
-                test_loop(settings, settings.pos)?;
-                let value = nested!(shared, self.parse_jump(shared, frame, settings))?;
-                Ok(make_break(self.engine.alloc(), value, settings.pos)?)
-            }
-            StatementStart::Continue => {
-                skip(shared.input);
-                test_loop(settings, settings.pos)?;
-                Ok(make_continue(settings.pos))
-            }
             StatementStart::Import => {
                 skip(shared.input);
                 let deeper = settings.level_up()?.level_up()?;
@@ -178,7 +207,7 @@ impl<R: LentReaders> Reader<'_, R> {
             StatementStart::Function => self.parse_plain_fn(shared, frame, settings, &[]),
             StatementStart::Private => self.parse_private_fn(shared, frame, settings, &[]),
             StatementStart::Comment => self.parse_documented_fn(shared, frame, settings),
-            StatementStart::Expression | StatementStart::Construct(_) => unreachable!(),
+            _ => unreachable!(),
         }
     }
 

@@ -8,8 +8,7 @@ ghost use Rattle.rhai_lower.specs.View.{statement_view, view};
 ghost use Rattle.rhai_grammar.specs.Cursors.{left};
 ghost use Rattle.rhai_grammar.specs.Switches.{nothing_collected};
 ghost use Rattle.rhai_grammar.specs.declared.role.Construct.TheVariants.{Switch};
-ghost use Rattle.rhai_readers.specs.Readers.{Covers, GoesOn, Reads, ReadsAs, action, arm, arms, case, case_guard, cases};
-ghost use Rattle.rhai_readers.specs.Heights.{Stays};
+ghost use Rattle.rhai_readers.specs.Readers.{Covers, ReadsAs, action, arm, arms, case, case_guard, cases};
 ghost use Rattle.rhai_readers.specs.Readers.{construct};
 ghost use Rattle.rhai_readers.specs.Readers.{default_arm, state_of};
 ghost use Rattle.rhai_statements.specs.Switches.{CaseFrame, action_view, arm_view, cases_view};
@@ -104,11 +103,8 @@ impl<R: LentReaders> Reader<'_, R> {
         requires in_cases { CaseFrame frame.now in_cases.now }
         requires lent { Covers (R.lent self.now.readers)
             (arm (arms_view before.now) self.now.engine.now frame.now settings) shared.old }
-        ensures goes_on { GoesOn shared.old shared.new }
-        ensures stays { Stays self.now.engine.now frame.now settings 3 shared.old shared.new }
-        ensures reads { Reads (arm (arms_view before.now) self.now.engine.now frame.now settings) arm_view
-            shared.old result
-            shared.new }
+        ensures reads { ReadsAs self.now.engine.now frame.now settings 3 (arm (arms_view before.now)) arm_view
+            shared.old result shared.new }
         ensures shrinks { OnOk result
             (left (state_of shared.new).cursor.tokens + 1 ≤ left (state_of shared.old).cursor.tokens) }
     {

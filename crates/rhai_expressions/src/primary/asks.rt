@@ -1,15 +1,14 @@
-//! Leaves joined for operands, as the reading program joins them. They are the next key, and what a name or a word is.
+//! Leaves joined for operands of one token, as the reading program joins them: a value, a name, a word.
 
-ghost use Rattle.std.specs.Prelude.{◌≡◌, IfErr, IfOk, OnOk, false, option_map, true};
-ghost use Rattle.rhai_lower.specs.View.{property_views, view, written};
+ghost use Rattle.std.specs.Prelude.{◌≡◌, IfErr, IfOk, false, true};
+ghost use Rattle.rhai_lower.specs.View.{view};
 ghost use Rattle.rhai_grammar.specs.Answers.{Answers};
 ghost use Rattle.rhai_grammar.specs.Causes.{MemoryIsNowhere};
-ghost use Rattle.rhai_base.specs.Frames.{FrameValue};
 ghost use Rattle.rhai_base.specs.Settings.{settings_of};
 ghost use Rattle.rhai_base.specs.Words.{word_result};
 ghost use Rattle.rhai_trees.specs.Chains.{chain_view};
 ghost use Rattle.rhai_trees.specs.Linked.{is_linked};
-ghost use Rattle.rhai_reading.specs.Reading.{NextKey, Primary};
+ghost use Rattle.rhai_reading.specs.Reading.{Primary};
 ghost use Rattle.std.specs.Rc.{rc_str_bytes};
 ghost use Rattle.rhai_lower.specs.Lexemes.{Lexeme};
 ghost use Rattle.rhai_grammar.specs.Beginnings.{beginning, excludes_use, is_value};
@@ -18,54 +17,19 @@ ghost use Rattle.rhai_reading.specs.Reading.{name_at};
 ghost use Rattle.rhai_reading.specs.Running.{Caller, Done, Gives, next_item, exec, result_of};
 ghost use Rattle.rhai_readers.specs.Frames.{context_of, live_of};
 ghost use Rattle.rhai_readers.specs.Engines.{EngineValue};
-ghost use Rattle.rhai_readers.specs.Readers.{GoesOn, Reads, state_of};
+ghost use Rattle.rhai_readers.specs.Readers.{GoesOn, state_of};
 ghost use Rattle.rhai_readers.specs.Heights.{Steady};
 
-use crate::primary::keys;
 use rhai_base::literals::value_of;
 use rhai_base::words::{name_node, word_node};
 use rhai_base::{Frame, ParseSettingFlags, ParseSettings};
-use rhai_grammar::{DueToken, ParseResult};
+use rhai_grammar::ParseResult;
 use rhai_leaves::cursor::{peek, skip};
-use rhai_leaves::due::match_token;
-use rhai_leaves::items::room_for_value;
-use rhai_lower::{Expr, Ident, NamedList, Position};
-use rhai_readers::{Config, Shared};
+use rhai_lower::{Expr, Position};
+use rhai_readers::Shared;
 use rhai_trees::Chain;
 use std::alloc::{AllocError, Global};
 use std::rc::RcStr;
-
-/// The key of the property after these ones, with its `:`, and a look at the value that is due; none where the `}` is,
-/// which is taken. The engine limits how many properties the literal has.
-#[tactic(auto, using(rhai_reading::proofs::Steps::step_next_key, crate::proofs::KeyLemmas::count_properties))]
-pub(crate) fn next_key(
-    engine: &Config,
-    shared: &mut Shared<'_>,
-    settings: ParseSettings,
-    properties: &NamedList<(Ident, Expr)>,
-) -> ParseResult<Option<Ident>>
-    ensures goes_on { GoesOn shared.old shared.new }
-    ensures steady { Steady shared.old shared.new }
-    ensures reads { (frame : FrameValue) → Reads (NextKey (context_of engine.now frame settings)
-        (property_views properties.now)) (option_map written) shared.old result shared.new }
-{
-    let alloc = engine.alloc();
-    let next = match keys::next_key(alloc, shared.input, settings, properties) {
-        Ok(next) => next,
-        Err(error) => return Err(error),
-    };
-    let Some(key) = next else {
-        return Ok(None);
-    };
-    let note = "to follow the key of a property in this object map literal";
-    if let Err(error) = match_token(alloc, shared.input, DueToken::Colon, note) {
-        return Err(error);
-    }
-    match room_for_value(alloc, shared.input, engine.max_map_size(), properties.len()) {
-        Ok(()) => Ok(Some(key)),
-        Err(error) => Err(error),
-    }
-}
 
 /// The value that the next token is, which is taken. The error is that there is no memory for it.
 #[inline(always)]

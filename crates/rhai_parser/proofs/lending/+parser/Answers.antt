@@ -1,7 +1,9 @@
 -- What these functions lend, where less is left to do than at their own call.
-use Rattle.std.proofs.Common.{ℕ, ◌≡◌, ◌<◌, ◌∙◌, ap, arith}
-use Rattle.rhai_reading.specs.Running.{need}
-use Rattle.rhai_readers.specs.Readers.{construct, expression, inside, statement}
+use Rattle.std.proofs.Common.{ℕ, ◌≡◌, ◌<◌, ◌∙◌, ap, arith, false, subst, sym}
+use Rattle.rhai_grammar.specs.Beginnings.{beginning}
+use Rattle.rhai_readers.specs.PlainPrimaries.{is_plain}
+use Rattle.rhai_reading.specs.Running.{need, next_item}
+use Rattle.rhai_readers.specs.Readers.{construct, expression, inside, primary, statement}
 use Rattle.rhai_parser.proofs.lending.+parser.Goals as goal
 
 -- A need that falls below another is below what that other is measured by.
@@ -16,6 +18,7 @@ parse_chain-parse_chain-requires t c =
         λ engine shared frame settings is. ((falls is below same, tt), λ result after after_frame told. told.1),
         λ engine shared frame settings kind is. ((falls is below same, tt), λ result after told. told.2),
         λ engine shared frame settings is. ((falls is below same, tt), λ result after told. told.1),
+        λ engine shared frame settings compound is. ((falls is below same, compound), λ result after told. told.1),
       );
     }
 
@@ -27,6 +30,7 @@ parse_stmt-parse_stmt-requires t c =
         λ engine shared frame settings is. ((falls is below same, tt), λ result after after_frame told. told.1),
         λ engine shared frame settings kind is. ((falls is below same, tt), λ result after told. told.2),
         λ engine shared frame settings is. ((falls is below same, tt), λ result after told. told.1),
+        λ engine shared frame settings compound is. ((falls is below same, compound), λ result after told. told.1),
       );
     }
 
@@ -38,6 +42,7 @@ parse_construct-parse_construct-requires t c =
         λ engine shared frame settings is. ((falls is below same, tt), λ result after after_frame told. told.1),
         λ engine shared frame settings kind is. ((falls is below same, tt), λ result after told. told.2),
         λ engine shared frame settings is. ((falls is below same, tt), λ result after told. told.1),
+        λ engine shared frame settings compound is. ((falls is below same, compound), λ result after told. told.1),
       );
     }
 
@@ -49,5 +54,19 @@ parse_block_inside-parse_block_inside-requires t c =
         λ engine shared frame settings is. ((falls is below same, tt), λ result after after_frame told. told.1),
         λ engine shared frame settings kind is. ((falls is below same, tt), λ result after told. told.2),
         λ engine shared frame settings is. ((falls is below same, tt), λ result after told. told.1),
+        λ engine shared frame settings compound is. ((falls is below same, compound), λ result after told. told.1),
+      );
+    }
+
+pub parse_compound-parse_compound-requires : goal.parse_compound-parse_compound-requires
+parse_compound-parse_compound-requires t c =
+    let same = ap (need (primary c.args.engine.now c.args.frame.now c.args.settings)) c.nested-enter.ensures.enters ∙ c.decreases in record {
+      compound = subst (λ s. is_plain (beginning (next_item s).lexeme) ≡ false) (sym c.nested-enter.ensures.enters) c.requires.compound;
+      lent = λ m below. (
+        λ engine shared frame settings is. ((falls is below same, tt), λ result after told. told.1),
+        λ engine shared frame settings is. ((falls is below same, tt), λ result after after_frame told. told.1),
+        λ engine shared frame settings kind is. ((falls is below same, tt), λ result after told. told.2),
+        λ engine shared frame settings is. ((falls is below same, tt), λ result after told. told.1),
+        λ engine shared frame settings compound is. ((falls is below same, compound), λ result after told. told.1),
       );
     }

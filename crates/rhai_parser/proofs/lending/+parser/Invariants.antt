@@ -1,5 +1,5 @@
 use Rattle.rhai_reading.specs.Running.{need}
-use Rattle.rhai_readers.specs.Readers.{construct, expression, inside, state_of, statement}
+use Rattle.rhai_readers.specs.Readers.{construct, expression, inside, primary, state_of, statement}
 use Rattle.rhai_parser.proofs.lending.+parser.Given as goal
 
 abbrev pub decreases-parse_chain : goal.decreases-parse_chain
@@ -13,3 +13,6 @@ decreases-parse_construct l = need (construct l.kind l.engine.now l.frame.now l.
 
 abbrev pub decreases-parse_block_inside : goal.decreases-parse_block_inside
 decreases-parse_block_inside l = need (inside l.engine.now l.frame.now l.settings) (state_of l.shared.now)
+
+abbrev pub decreases-parse_compound : goal.decreases-parse_compound
+decreases-parse_compound l = need (primary l.engine.now l.frame.now l.settings) (state_of l.shared.now)

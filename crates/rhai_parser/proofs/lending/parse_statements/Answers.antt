@@ -7,5 +7,6 @@ parse_statements-requires c = record {
     λ engine shared frame settings is. (tt, λ result after after_frame told. told.1),
     λ engine shared frame settings kind is. (tt, λ result after told. told.2),
     λ engine shared frame settings is. (tt, λ result after told. told.1),
+    λ engine shared frame settings compound is. (compound, λ result after told. told.1),
   );
 }

@@ -1,4 +1,4 @@
-use Rattle.std.proofs.Common.{◌∙◌, ap, arith, refl, rules, sym}
+use Rattle.std.proofs.Common.{ap, arith, rules}
 use Rattle.std.specs.Rc.{rc_str_bytes}
 use Rattle.rhai_trees.specs.Chains.{chain_view}
 use Rattle.rhai_grammar.specs.Cursors.{cursor_of}
@@ -6,11 +6,10 @@ use Rattle.rhai_readers.proofs.Given.{gives_so}
 use Rattle.rhai_readers.specs.Frames.{context_of, live_of}
 use Rattle.rhai_readers.specs.Readers.{state_at, state_of}
 use Rattle.rhai_reading.specs.Reading.{Primary}
-use Rattle.rhai_reading.specs.Running.{guarded, result_of}
+use Rattle.rhai_reading.specs.Running.{guarded}
 use Rattle.rhai_reading.proofs.Outcomes.{answer_given}
 use Rattle.rhai_reading.proofs.WordSteps.{Worded}
 use Rattle.rhai_expressions.proofs.PrimaryLemmas.{named, worded_outcome}
-use Rattle.rhai_reading.proofs.Steps.{looked}
 use Rattle.rhai_grammar.specs.Beginnings.{calls, excludes_use}
 use Rattle.rhai_grammar.specs.declared.role.Beginning.TheVariants as begin
 use Rattle.rhai_expressions.proofs.reader.Reader.parse_primary.Goals as goal
@@ -54,15 +53,4 @@ returns-in_ok-called-in-Word g c = record {
         look_on = search rules;
       } in
       answer_given chain_view _ _ c.used_word.result (worded_outcome _ _ h) c.used_word.ensures.answers c.used_word.ensures.nowhere;
-}
-
-pub returns-in-Group : goal.returns-in-Group
-returns-in-Group g c = record {
-  goes_on = grind arith;
-  stays = grind arith;
-  reads =
-      let context = context_of c.args.self.now.engine.now c.args.frame.now c.args.settings in
-      let live = live_of c.args.frame.now in
-      gives_so chain_view c.parse_compound.result (state_of c.parse_compound.new.shared)
-      (sym (looked (Primary context live) _ (state_of c.args.shared.now) refl) ∙ ap (result_of (Primary context live)) (grind arith)) c.parse_compound.ensures.reads;
 }

@@ -2,7 +2,7 @@ use Rattle.std.proofs.Common.{◌≡◌, ◌∙◌, Err, Ok, ap, arith, refl, sy
 use Rattle.rhai_trees.specs.Chains.{chain_view}
 use Rattle.rhai_grammar.specs.Beginnings.{beginning}
 use Rattle.rhai_reading.specs.Reading.{Primary}
-use Rattle.rhai_reading.specs.Running.{next_item, entering, after_peek, nested, result_of}
+use Rattle.rhai_reading.specs.Running.{next_item, entering, after_peek, result_of}
 use Rattle.rhai_reading.specs.Running as R
 use Rattle.rhai_reading.proofs.Steps.{looked, nested_done}
 use Rattle.rhai_readers.proofs.Given.{gives_so}
@@ -18,7 +18,7 @@ returns-in-Ok g c = record {
   stays = grind arith;
   reads =
       let goal = operand c.args.self.now.engine.now c.args.frame.now c.args.settings in
-      gives_so chain_view (Ok c.in-Ok.operand) (state_of c.parse_written.new.shared)
+      gives_so chain_view (Ok c.in-Ok.operand) (state_of c.parse_plain.new.shared)
       (sym (looked goal _ (state_of c.args.shared.now) refl) ∙ ap (result_of goal) (grind arith)) c.in-Ok.ensures.reads;
 }
 
@@ -28,12 +28,32 @@ returns-in-Err g c = record {
   stays = grind arith;
   reads =
       let goal = operand c.args.self.now.engine.now c.args.frame.now c.args.settings in
-      gives_so chain_view (Err c.in-Err.error) (state_of c.parse_written.new.shared)
+      gives_so chain_view (Err c.in-Err.error) (state_of c.parse_plain.new.shared)
       (sym (looked goal _ (state_of c.args.shared.now) refl) ∙ ap (result_of goal) (grind arith)) c.in-Err.ensures.reads;
 }
 
-pub returns : goal.returns
-returns g c = record {
+pub returns-in-Ok-parse_rare : goal.returns-in-Ok-parse_rare
+returns-in-Ok-parse_rare g c = record {
+  goes_on = grind arith;
+  stays = grind arith;
+  reads =
+      let goal = operand c.args.self.now.engine.now c.args.frame.now c.args.settings in
+      gives_so chain_view (Ok c.in-Ok-parse_rare.operand) (state_of c.parse_rare.new.shared)
+      (sym (looked goal _ (state_of c.args.shared.now) refl) ∙ ap (result_of goal) (grind arith)) c.in-Ok-parse_rare.ensures.reads;
+}
+
+pub returns-in-Err-parse_rare : goal.returns-in-Err-parse_rare
+returns-in-Err-parse_rare g c = record {
+  goes_on = grind arith;
+  stays = grind arith;
+  reads =
+      let goal = operand c.args.self.now.engine.now c.args.frame.now c.args.settings in
+      gives_so chain_view (Err c.in-Err-parse_rare.error) (state_of c.parse_rare.new.shared)
+      (sym (looked goal _ (state_of c.args.shared.now) refl) ∙ ap (result_of goal) (grind arith)) c.in-Err-parse_rare.ensures.reads;
+}
+
+pub returns-in_ok-value-in-Value : goal.returns-in_ok-value-in-Value
+returns-in_ok-value-in-Value g c = record {
   goes_on = grind arith;
   stays = grind arith;
   reads =
@@ -44,7 +64,7 @@ returns g c = record {
       let entered : state_of c.nested-enter.new.self ≡ entering (after_peek s) = grind arith in
       gives_so chain_view c.parse_ends.result (state_of c.parse_ends.new.shared)
       (operand_begun context live (chain_view c.from_value-operand.result) s t (grind arith) (value_unsigned (beginning (next_item s).lexeme) (grind arith))
-      (nested_done (result_of (Primary context live)) (after_peek s) entered (c.in_ok-value.ensures.reads context live) c.nested-leave.ensures.leaves
+      (nested_done (result_of (Primary context live)) (after_peek s) entered (c.in_ok-value-in-Value.ensures.reads context live) c.nested-leave.ensures.leaves
       ∙ ap (λ x. R.Done x t) (sym c.from_value-operand.ensures)))
       (c.parse_ends.ensures.reads s (grind arith));
 }

@@ -1,0 +1,4 @@
+pub mod ClosureLemmas
+pub mod KeyLemmas
+pub mod KeyRefusals
+pub mod PrimaryReaders
