@@ -185,8 +185,9 @@ impl<R: LentReaders> Reader<'_, R> {
         }
     }
 
-    /// Reads a written operand with its signs and its call. Its first token is classified here, and nowhere below. A
-    /// value is read here, and any other operand apart, since a function clears all its locals when it begins.
+    /// Reads a written operand with its signs and its call. Its first token is classified here, and again only in
+    /// `parse_compound`. A value is read here, and any other operand apart, since a function clears all its locals when
+    /// it begins.
     #[inline(always)]
     #[tactic(auto, using(crate::proofs::ExprReaders::parse_unary))]
     fn parse_unary(
