@@ -10,9 +10,10 @@ ghost use Rattle.rhai_grammar.specs.Beginnings.{beginning};
 ghost use Rattle.rhai_grammar.specs.Cursors.{left};
 ghost use Rattle.rhai_grammar.specs.Delivered.{is_memory};
 ghost use Rattle.rhai_leaves.specs.OperandEnds.{ends_operand};
-ghost use Rattle.rhai_reading.specs.Running.{Done, Gives, Progress, next_item, exec, guarded, after_peek, result_of};
+ghost use Rattle.rhai_reading.specs.Running.{Done, Gives, Progress, after_peek, entering, exec, guarded, next_item};
+ghost use Rattle.rhai_reading.specs.Running.{result_of};
 ghost use Rattle.rhai_readers.specs.Frames.{context_of, live_of};
-ghost use Rattle.rhai_expressions.specs.Operands.{operand_ends};
+ghost use Rattle.rhai_expressions.specs.Operands.{Counted, operand_ends};
 ghost use Rattle.rhai_readers.specs.Readers.{Covers, GoesOn, ReadsAs, arguments, expression, items, links};
 ghost use Rattle.rhai_readers.specs.Readers.{operand, postfix};
 ghost use Rattle.rhai_readers.specs.Readers.{right_operand, state_of, views_of};
@@ -279,9 +280,9 @@ impl<R: LentReaders> Reader<'_, R> {
         }
     }
 
-    // Nothing calls an operand before this token, and it is no part of a path.
+    // Before this token nothing calls an operand, it is no part of a path, and no link follows it.
     #[inline(always)]
-    fn pass_postfix(
+    fn pass_ends(
         &self,
         shared: &Shared<'_>,
         frame: &Frame<'_>,
@@ -291,27 +292,14 @@ impl<R: LentReaders> Reader<'_, R> {
         requires looked { state_of shared.now ≡ after_peek (state_of shared.now) }
         requires readable { is_memory (next_item (state_of shared.now)).lexeme ≡ false }
         requires ends { ends_operand (next_item (state_of shared.now)).lexeme ≡ true }
-        ensures reads { result_of (postfix (chain_view operand.now) self.now.engine.now frame.now settings)
-            (state_of shared.now) ≡ Done (chain_view operand.now) (state_of shared.now) }
-    {}
-
-    // No link follows an operand before this token.
-    #[inline(always)]
-    fn pass_links(
-        &self,
-        shared: &Shared<'_>,
-        frame: &Frame<'_>,
-        settings: ParseSettings,
-        operand: &Chain,
-    )
-        requires looked { state_of shared.now ≡ after_peek (state_of shared.now) }
-        requires readable { is_memory (next_item (state_of shared.now)).lexeme ≡ false }
-        requires ends { ends_operand (next_item (state_of shared.now)).lexeme ≡ true }
-        ensures reads { result_of (links (chain_view operand.now) self.now.engine.now frame.now settings)
+        ensures postfix { result_of (postfix (chain_view operand.now) self.now.engine.now frame.now settings)
+            (entering (state_of shared.now)) ≡ Done (chain_view operand.now) (entering (state_of shared.now)) }
+        ensures links { result_of (links (chain_view operand.now) self.now.engine.now frame.now settings)
             (state_of shared.now) ≡ Done [] (state_of shared.now) }
     {}
 
-    // Reads what calls an operand, and its links.
+    // Reads what calls an operand of one token, and its links. Where there are none, no reader is entered for them:
+    // that of the token has been counted.
     #[inline(always)]
     #[tactic(auto, using(crate::proofs::ExprReaders::parse_ends))]
     fn parse_ends(
@@ -321,6 +309,7 @@ impl<R: LentReaders> Reader<'_, R> {
         settings: ParseSettings,
         primary: Chain,
     ) -> ParseResult<Chain>
+        requires counted { Counted (state_of shared.old) }
         requires lent { Covers (R.lent self.now.readers) (operand self.now.engine.now frame.now settings) shared.old }
         ensures goes_on { GoesOn shared.old shared.new }
         ensures stays { Stays self.now.engine.now frame.now settings 3 shared.old shared.new }
@@ -335,8 +324,7 @@ impl<R: LentReaders> Reader<'_, R> {
                 Err(error) => Err(error),
             };
         }
-        nested!(shared, self.pass_postfix(shared, frame, settings, &primary));
-        self.pass_links(shared, frame, settings, &primary);
+        self.pass_ends(shared, frame, settings, &primary);
         end_plain(frame, settings, primary)
     }
 

@@ -32,7 +32,8 @@ impl<R: LentReaders> Reader<'_, R> {
     ) -> ParseResult<Chain>
         requires begins { begins ≡ beginning (next_item (state_of shared.old)).lexeme }
         requires plain { is_plain begins ≡ true }
-        ensures { ReadsAs self.now.engine.now frame.now settings 0 primary chain_view shared.old result shared.new }
+        ensures reads { ReadsAs self.now.engine.now frame.now settings 0 primary chain_view shared.old result shared.new }
+        ensures counts { shared.new.counts ≡ shared.old.counts }
     {
         let alloc = self.engine.alloc();
         let (token, pos) = peek(shared.input)?;

@@ -1,11 +1,11 @@
-use Rattle.std.proofs.Common.{◌≡◌, ◌≤◌, ◌∙◌, Err, Ok, ap, arith, refl, sym}
+use Rattle.std.proofs.Common.{◌≡◌, ◌≤◌, ◌∙◌, Err, Ok, ap, arith, refl, subst, sym}
 use Rattle.rhai_trees.specs.Chains.{chain_view}
 use Rattle.rhai_grammar.specs.Cursors.{left}
-use Rattle.rhai_reading.specs.Running.{Progress, entering, exec, guarded, after_peek}
+use Rattle.rhai_reading.specs.Running.{Progress, after_peek, exec, guarded}
 use Rattle.rhai_readers.proofs.Given.{gives_so}
-use Rattle.rhai_expressions.proofs.OperandLemmas.{ends_looked, ends_plain_at}
+use Rattle.rhai_expressions.proofs.OperandLemmas.{ends_counted, ends_looked}
 use Rattle.rhai_readers.specs.Frames.{context_of, live_of}
-use Rattle.rhai_expressions.specs.Operands.{operand_ends}
+use Rattle.rhai_expressions.specs.Operands.{Counted, operand_ends}
 use Rattle.rhai_readers.specs.Readers.{operand, state_of}
 use Rattle.rhai_expressions.proofs.reader.Reader.parse_ends.Goals as goal
 use Rattle.rhai_expressions.proofs.reader.Reader.parse_ends.Goals.{In_ok-ends_here}
@@ -36,9 +36,11 @@ pub returns-clause-reads : goal.returns-clause-reads
 returns-clause-reads g c s less =
     let h = (goal.at.returns-clause-reads g c).In_ok-ends_here in
     let context = context_of c.args.self.now.engine.now c.args.frame.now c.args.settings in
-    let t = state_of c.args.shared.now in
     let call = guarded (operand c.args.self.now.engine.now c.args.frame.now c.args.settings) s in
-    let entered : state_of c.nested-enter.new.self ≡ entering (after_peek t) = c.nested-enter.ensures.enters ∙ ap entering c.ends_here.ensures.after in
-    gives_so chain_view c.end_plain.result (state_of c.nested-leave.new.self)
-    (ends g h s less ∙ ends_plain_at context (live_of c.args.frame.now) (chain_view c.args.primary) s (after_peek t) less entered c.pass_postfix.ensures.reads c.nested-leave.ensures.leaves c.pass_links.ensures.reads)
-    (c.end_plain.ensures.gives call (state_of c.nested-leave.new.self) context refl refl)
+    let t = state_of c.ends_here.new.shared in
+    let at : after_peek (state_of c.args.shared.now) ≡ t = sym c.ends_here.ensures.after in
+    let counted : Counted t = subst Counted at c.requires.counted in
+    gives_so chain_view c.end_plain.result t
+    (ends g h s less ∙ ap (λ (q : Progress). exec call (operand_ends context (live_of c.args.frame.now) (chain_view c.args.primary)) q) at
+    ∙ ends_counted context (live_of c.args.frame.now) (chain_view c.args.primary) s t (grind arith) counted c.pass_ends.ensures.postfix c.pass_ends.ensures.links)
+    (c.end_plain.ensures.gives call t context refl refl)
