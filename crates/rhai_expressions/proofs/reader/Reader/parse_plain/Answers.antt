@@ -18,12 +18,12 @@ returns g c = record {
       let s = state_of c.args.shared.now in
       let engine = c.args.self.now.engine.now in
       let context = context_of engine c.args.frame.now c.args.settings in
-      let unsigned : is_sign (beginning (next_item s).lexeme) ≡ false = ap is_sign (sym c.requires.begins) ∙ plain_unsigned c.args.begins c.requires.plain in
+      let unsigned : is_sign (beginning (next_item s).lexeme) ≡ false = ap is_sign (sym c.requires.begins.0.class) ∙ plain_unsigned c.args.begins c.requires.begins.1 in
       let entered : state_of c.nested-enter.new.self ≡ entering (after_peek s) = grind arith in
       gives_so chain_view c.parse_ends.result (state_of c.parse_ends.new.shared)
-      (operand_begun context (live_of c.args.frame.now) (chain_view c.in_ok-primary.primary) s (state_of c.nested-leave.new.self) c.requires.readable unsigned
+      (operand_begun context (live_of c.args.frame.now) (chain_view c.in_ok-primary.primary) s (state_of c.nested-leave.new.self) c.requires.begins.0.readable unsigned
       (nested_done (result_of (primary engine c.args.frame.now c.args.settings)) (after_peek s) entered c.in_ok-primary.ensures.reads.reads c.nested-leave.ensures.leaves))
-      (c.parse_ends.ensures.reads s (grind arith));
+      (c.parse_ends.ensures.reads (operand engine c.args.frame.now c.args.settings) s (grind arith));
 }
 
 pub returns-in_err-primary : goal.returns-in_err-primary
@@ -34,9 +34,9 @@ returns-in_err-primary g c = record {
       let p = err_from_is_err_and c.from_residual.result c.from_residual.ensures.1 in
       let s = state_of c.args.shared.now in
       let context = context_of c.args.self.now.engine.now c.args.frame.now c.args.settings in
-      let unsigned : is_sign (beginning (next_item s).lexeme) ≡ false = ap is_sign (sym c.requires.begins) ∙ plain_unsigned c.args.begins c.requires.plain in
+      let unsigned : is_sign (beginning (next_item s).lexeme) ≡ false = ap is_sign (sym c.requires.begins.0.class) ∙ plain_unsigned c.args.begins c.requires.begins.1 in
       let entered : state_of c.nested-enter.new.self ≡ entering (after_peek s) = grind arith in
-      rw (p.1, p.2) (operand_fails context (live_of c.args.frame.now) s c.requires.readable unsigned _ (state_of c.nested-leave.new.self)
+      rw (p.1, p.2) (operand_fails context (live_of c.args.frame.now) s c.requires.begins.0.readable unsigned _ (state_of c.nested-leave.new.self)
       (nested_gives chain_view _ _ _ _ _ (Err _) entered c.in_err-primary.ensures.reads.reads c.nested-leave.ensures.leaves));
 }
 
