@@ -18,7 +18,7 @@ use Rattle.rhai_grammar.specs.declared.role.Beginning.TheVariants as begin
 use Rattle.rhai_readers.specs.PlainPrimaries.{is_plain}
 use Rattle.rhai_grammar.specs.Settings.{one_more}
 use Rattle.rhai_reading.specs.Nesting.{Nesting, entered, left_one}
-use Rattle.rhai_reading.specs.Reading.{Call, Fail, Goal, Links, Operand, Postfix, Primary, operand_by, sign_on, tested}
+use Rattle.rhai_reading.specs.Reading.{Call, Fail, Links, Operand, Postfix, Primary, operand_by, sign_on, tested}
 use Rattle.rhai_reading.specs.Running as R
 use Rattle.rhai_reading.specs.Running.{Caller, Progress, next_item, entering, exec, guarded, leaving, after_peek, after_take, nested, result_of}
 use Rattle.rhai_reading.proofs.Outcomes.{operand_other, operand_sign, outcome, sign_outcome}
@@ -131,34 +131,36 @@ counted_once s e u {t} here same there =
     let nests : t.nesting ≡ left_one (entered s.nesting) = ap (λ (p : Progress). p.nesting) there ∙ ap left_one (same ∙ ap (λ (p : Progress). p.nesting) here) in
     subst (λ n. left_one (entered n) ≡ n) (sym nests) (entered_again s.nesting)
 
-module _ (g : Goal) (c : Context) (w : Live) (x : Node) (s t : Progress) (less : left t.cursor.tokens ≤ left s.cursor.tokens) where
+module _ (c : Context) (w : Live) (x : Node) (s t : Progress) (less : left t.cursor.tokens ≤ left s.cursor.tokens) where
   call : Caller
-  call = guarded g s
+  call = guarded (Operand c w) s
 
   -- what follows what calls it
   after : Node → Progress → R.Out Node
   after y u = exec call (Call (Links w (spot_after_operand c y)) (λ links. tested (chained y links) (module_fault c w y))) u
 
   -- where the next token was looked at
-  pub ends_looked : exec (guarded g s) (operand_ends c w x) (after_peek t) ≡ exec (guarded g s) (operand_ends c w x) t
+  pub ends_looked : exec (guarded (Operand c w) s) (operand_ends c w x) (after_peek t) ≡ exec (guarded (Operand c w) s) (operand_ends c w x) t
   unfolding call after nested
   ends_looked =
+      let g = Operand c w in
       let h = Postfix c w x in
       ap (λ o. R.and_then (R.left_so o) after) (guarded_is g s h (entering (after_peek t)) (omega (arith, less)) ∙ looked h _ (entering t) refl ∙ sym (guarded_is g s h (entering t) (omega (arith, less))))
 
   -- where nothing calls it, and no link follows
   pub ends_plain : result_of (Postfix c w x) (entering t) ≡ R.Done x (entering t) → result_of (Links w (spot_after_operand c x)) (leaving (entering t)) ≡ R.Done [] (leaving (entering t))
-      → exec (guarded g s) (operand_ends c w x) t ≡ exec (guarded g s) (tested x (module_fault c w x)) (leaving (entering t))
+      → exec (guarded (Operand c w) s) (operand_ends c w x) t ≡ exec (guarded (Operand c w) s) (tested x (module_fault c w x)) (leaving (entering t))
   unfolding call after nested
   ends_plain uncalled unlinked =
+      let g = Operand c w in
       let u = leaving (entering t) in
       ap (λ o. R.and_then (R.left_so o) after) (guarded_is g s (Postfix c w x) (entering t) (omega (arith, less)) ∙ uncalled)
       ∙ ap (λ o. R.and_then o (λ links v. exec call (tested (chained x links) (module_fault c w x)) v)) (guarded_is g s (Links w (spot_after_operand c x)) u (omega (arith, less)) ∙ unlinked)
 
   -- the same where its readers have been counted
   pub ends_counted : Counted t → result_of (Postfix c w x) (entering t) ≡ R.Done x (entering t) → result_of (Links w (spot_after_operand c x)) t ≡ R.Done [] t
-      → exec (guarded g s) (operand_ends c w x) t ≡ exec (guarded g s) (tested x (module_fault c w x)) t
+      → exec (guarded (Operand c w) s) (operand_ends c w x) t ≡ exec (guarded (Operand c w) s) (tested x (module_fault c w x)) t
   ends_counted counted uncalled unlinked =
       let back : leaving (entering t) ≡ t = untraced t counted in
       ends_plain uncalled (subst (λ q. result_of (Links w (spot_after_operand c x)) q ≡ R.Done [] q) (sym back) unlinked)
-      ∙ ap (λ q. exec (guarded g s) (tested x (module_fault c w x)) q) back
+      ∙ ap (λ q. exec (guarded (Operand c w) s) (tested x (module_fault c w x)) q) back

@@ -8,7 +8,7 @@ use Rattle.rhai_grammar.specs.Contexts.{Context, Live}
 use Rattle.rhai_grammar.specs.Cursors.{left}
 use Rattle.rhai_grammar.specs.Delivered.{is_end, is_memory}
 use Rattle.rhai_grammar.specs.Starts.{role_after}
-use Rattle.rhai_reading.specs.Reading.{BinaryOp, Call, NextOperator, Peek, Prog, Ret, RightOperand, Take}
+use Rattle.rhai_reading.specs.Reading.{BinaryOp, Call, Goal, NextOperator, Peek, Prog, Ret, RightOperand, Take}
 use Rattle.rhai_reading.specs.Reading.{binary_on, raised}
 use Rattle.rhai_reading.specs.Running.{Progress, exec, guarded, next_item, result_of}
 use Rattle.rhai_grammar.specs.declared.error.ParseError.{ParseError}
@@ -61,8 +61,8 @@ pub record Follows (filter : ExprFilter) (next : Option Operator) (s : Progress)
 -- are raised there, and what comes next has been looked at.
 pub record ReadsSide (engine : EngineValue) (frame : FrameValue) (settings : ParseSettings) (old : Shared)
     (result : Result Side ParseError) (new : Shared) : Type 0 where
-  pub part : ReadsPart engine frame settings 5 (right_side (context_of engine frame settings) (live_of frame)
-      settings.pos) side_view old result new
+  pub part : (g : Goal) → ReadsPart engine frame settings 5 g
+      (right_side (context_of engine frame settings) (live_of frame) settings.pos) side_view old result new
   pub shorter : OnOk result (left (state_of new).cursor.tokens + 1 ≤ left (state_of old).cursor.tokens)
   pub raises : IfOk result (λ r. RaisesInRun settings r.pos (Ok r.deeper))
   pub deeper : IfOk result (λ r. IsDeeper settings r.deeper.side × IsDeeper settings r.deeper.next)

@@ -296,9 +296,9 @@ impl<R: LentReaders> Reader<'_, R> {
     ) -> ParseResult<Chain>
         requires counted { Counted (state_of shared.old) }
         requires lent { Covers (R.lent self.now.readers) (operand self.now.engine.now frame.now settings) shared.old }
-        ensures { ReadsPart self.now.engine.now frame.now settings 3 (operand_ends
-            (context_of self.now.engine.now frame.now settings) (live_of frame.now) (chain_view primary)) chain_view
-            shared.old result shared.new }
+        ensures { ReadsPart self.now.engine.now frame.now settings 3 (operand self.now.engine.now frame.now settings)
+            (operand_ends (context_of self.now.engine.now frame.now settings) (live_of frame.now) (chain_view primary))
+            chain_view shared.old result shared.new }
     {
         if !ends_here(shared)? {
             return match self.parse_all_ends(shared, frame, settings, primary) {
@@ -321,9 +321,9 @@ impl<R: LentReaders> Reader<'_, R> {
         primary: Chain,
     ) -> ParseResult<Chain>
         requires lent { Covers (R.lent self.now.readers) (operand self.now.engine.now frame.now settings) shared.old }
-        ensures { ReadsPart self.now.engine.now frame.now settings 3 (operand_ends
-            (context_of self.now.engine.now frame.now settings) (live_of frame.now) (chain_view primary)) chain_view
-            shared.old result shared.new }
+        ensures { ReadsPart self.now.engine.now frame.now settings 3 (operand self.now.engine.now frame.now settings)
+            (operand_ends (context_of self.now.engine.now frame.now settings) (live_of frame.now) (chain_view primary))
+            chain_view shared.old result shared.new }
     {
         let operand = nested!(shared, self.parse_postfix(shared, frame, settings, primary))?;
         match self.parse_links(shared, frame, settings, &operand) {

@@ -31,12 +31,11 @@ pub record Begins (begins : Beginning) (s : Progress) : Type 0 where
   pub readable : is_memory (next_item s).lexeme ≡ false
   pub class : begins ≡ beginning (next_item s).lexeme
 
--- What a reader of a part of a goal promises, which this program reads: what a reader of a goal does, whatever goal the
--- part belongs to.
-pub record ReadsPart (engine : EngineValue) (frame : FrameValue) (settings : ParseSettings) (height : ℕ)
+-- What a reader of a part of this goal promises, which is what this program reads: the same as a reader of a goal.
+pub record ReadsPart (engine : EngineValue) (frame : FrameValue) (settings : ParseSettings) (height : ℕ) (g : Goal)
     {X V : Type 0} (program : Prog V) (view : X → V) (old : Shared) (result : Result X ParseError) (new : Shared)
     : Type 0 where
   pub goes_on : GoesOn old new
   pub stays : Stays engine frame settings height old new
-  pub reads : (g : Goal) (s : Progress) → left (state_of old).cursor.tokens ≤ left s.cursor.tokens
+  pub reads : (s : Progress) → left (state_of old).cursor.tokens ≤ left s.cursor.tokens
       → Gives view (exec (guarded g s) program (state_of old)) result (state_of new)

@@ -81,7 +81,7 @@ returns-in_ok-primary-in_default g t c = record {
       gives_so chain_view c.parse_all_ends.result (state_of c.parse_all_ends.new.shared)
       (operand_begun context (live_of c.args.frame.now) (chain_view c.in_ok-primary-in_default.primary) s (state_of c.parse_compound.new.shared) c.requires.begins.readable unsigned
       (ap (nested (result_of (primary engine c.args.frame.now c.args.settings))) (sym c.requires.begins.looked) ∙ c.in_ok-primary-in_default.ensures.reads))
-      (c.parse_all_ends.ensures.reads (operand engine c.args.frame.now c.args.settings) s (grind arith));
+      (c.parse_all_ends.ensures.reads s (grind arith));
 }
 
 pub returns-in_err-primary-in_default : goal.returns-in_err-primary-in_default

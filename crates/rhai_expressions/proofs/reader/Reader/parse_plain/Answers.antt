@@ -23,7 +23,7 @@ returns g c = record {
       gives_so chain_view c.parse_ends.result (state_of c.parse_ends.new.shared)
       (operand_begun context (live_of c.args.frame.now) (chain_view c.in_ok-primary.primary) s (state_of c.nested-leave.new.self) c.requires.begins.0.readable unsigned
       (nested_done (result_of (primary engine c.args.frame.now c.args.settings)) (after_peek s) entered c.in_ok-primary.ensures.reads.reads c.nested-leave.ensures.leaves))
-      (c.parse_ends.ensures.reads (operand engine c.args.frame.now c.args.settings) s (grind arith));
+      (c.parse_ends.ensures.reads s (grind arith));
 }
 
 pub returns-in_err-primary : goal.returns-in_err-primary

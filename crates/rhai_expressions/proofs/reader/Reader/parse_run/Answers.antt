@@ -38,7 +38,7 @@ returns-in_err-side g c = record {
       let run = c.loop-operator.run in
       let s = state_of c.loop-operator.shared in
       let found = run_goes_on (context_of c.args.self.now.engine.now c.args.frame.now run.settings) (live_of c.args.frame.now) run.settings.pos run.parent (chain_view run.lhs) s c.loop-operator.next c.loop-operator.invariant.next c.in-Some.operator (sym c.in_run.ensures ∙ c.in-Some.is) in
-      let read = c.in_err-side.ensures.part.reads (binary_op run.settings.pos run.parent (chain_view run.lhs) c.args.self.now.engine.now c.args.frame.now run.settings) s (omega (arith)) in
+      let read = (c.in_err-side.ensures.part (binary_op run.settings.pos run.parent (chain_view run.lhs) c.args.self.now.engine.now c.args.frame.now run.settings)).reads s (omega (arith)) in
       rw (p.1, p.2) (
         λ told. awaits_refused c.loop-operator.invariant.awaits (right_refused _ _ _ _ _ c.in-Some.operator.strength _ s _ _ found (read.0 told)),
         read.1,
@@ -60,7 +60,7 @@ pushes g c =
     let less : 1 ≤ start.max_expr_depth → levels_left side.deeper.next ≤ levels_left start = grind arith in
     record {
       found = run_goes_on (context_of c.args.self.now.engine.now c.args.frame.now run.settings) (live_of c.args.frame.now) run.settings.pos run.parent (chain_view run.lhs) s c.loop-operator.next c.loop-operator.invariant.next c.in-Some.operator (sym c.in_run.ensures ∙ c.in-Some.is);
-      reads = c.in_ok-side.ensures.part.reads (binary_op run.settings.pos run.parent (chain_view run.lhs) c.args.self.now.engine.now c.args.frame.now run.settings) s (omega (arith))
+      reads = (c.in_ok-side.ensures.part (binary_op run.settings.pos run.parent (chain_view run.lhs) c.args.self.now.engine.now c.args.frame.now run.settings)).reads s (omega (arith))
           ∙ ap (λ (o : Token). Done (lexeme o, side.pos, chain_view side.rhs) t) (sym is.operator.0)
           ∙ ap (λ (at : Position). Done (lexeme outer.op_token, at, chain_view side.rhs) t) (sym is.operator.1)
           ∙ ap (λ (x : Chain). Done (lexeme outer.op_token, outer.pos, chain_view x) t) (sym is.side.0);

@@ -66,7 +66,7 @@ returns-in_ok-value-in-Value g c = record {
       (operand_begun context live (chain_view c.from_value-operand.result) s t (grind arith) (value_unsigned (beginning (next_item s).lexeme) (grind arith))
       (nested_done (result_of (Primary context live)) (after_peek s) entered (c.in_ok-value-in-Value.ensures.reads context live) c.nested-leave.ensures.leaves
       ∙ ap (λ x. R.Done x t) (sym c.from_value-operand.ensures)))
-      (c.parse_ends.ensures.reads (operand c.args.self.now.engine.now c.args.frame.now c.args.settings) s (grind arith));
+      (c.parse_ends.ensures.reads s (grind arith));
 }
 
 pub parse_ends-requires-clause-counted : goal.parse_ends-requires-clause-counted
