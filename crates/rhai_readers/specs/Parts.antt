@@ -20,18 +20,13 @@ pub record AtToken (s : Progress) : Type 0 where
   pub readable : is_memory (next_item s).lexeme ≡ false
   pub more : is_end (next_item s).lexeme ≡ false
 
--- The next token has been looked at, and there was memory for it.
-pub record Looked (s : Progress) : Type 0 where
-  pub looked : s ≡ after_peek s
-  pub readable : is_memory (next_item s).lexeme ≡ false
-
--- The next token has been looked at, and an operand of this class begins with it.
+-- The next token has been looked at, there was memory for it, and an operand of this class begins with it.
 pub record Begins (begins : Beginning) (s : Progress) : Type 0 where
   pub looked : s ≡ after_peek s
   pub readable : is_memory (next_item s).lexeme ≡ false
   pub class : begins ≡ beginning (next_item s).lexeme
 
--- What a reader of a part of this goal promises, which is what this program reads: the same as a reader of a goal.
+-- What a reader promises that reads a part of this goal, which is what the program reads: the same as a reader of a goal.
 pub record ReadsPart (engine : EngineValue) (frame : FrameValue) (settings : ParseSettings) (height : ℕ) (g : Goal)
     {X V : Type 0} (program : Prog V) (view : X → V) (old : Shared) (result : Result X ParseError) (new : Shared)
     : Type 0 where
