@@ -57,8 +57,8 @@ pub record Follows (filter : ExprFilter) (next : Option Operator) (s : Progress)
   pub readable : is_memory (next_item s).lexeme ≡ false
   pub more : IsSome next → is_end (next_item s).lexeme ≡ false
 
--- What the reader of an operator and of the operand after it promises: it takes the operator, the levels of what follows
--- are raised there, and what comes next has been looked at.
+-- What the reader of an operator and of the operand after it promises: it takes the operator, the levels of what
+-- follows are raised there, and what comes next has been looked at.
 pub record ReadsSide (engine : EngineValue) (frame : FrameValue) (settings : ParseSettings) (old : Shared)
     (result : Result Side ParseError) (new : Shared) : Type 0 where
   pub part : (g : Goal) → ReadsPart engine frame settings 5 g

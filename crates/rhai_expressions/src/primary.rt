@@ -30,7 +30,8 @@ impl<R: LentReaders> Reader<'_, R> {
         begins: Beginning,
     ) -> ParseResult<Chain>
         requires { Begins begins (state_of shared.old) × (is_plain begins ≡ true) }
-        ensures reads { ReadsAs self.now.engine.now frame.now settings 0 primary chain_view shared.old result shared.new }
+        ensures reads { ReadsAs self.now.engine.now frame.now settings 0 primary chain_view shared.old result
+            shared.new }
         ensures counts { shared.new.counts ≡ shared.old.counts }
     {
         let alloc = self.engine.alloc();

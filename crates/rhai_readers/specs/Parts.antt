@@ -26,7 +26,8 @@ pub record Begins (begins : Beginning) (s : Progress) : Type 0 where
   pub readable : is_memory (next_item s).lexeme ≡ false
   pub class : begins ≡ beginning (next_item s).lexeme
 
--- What a reader promises that reads a part of this goal, which is what the program reads: the same as a reader of a goal.
+-- What a reader promises that reads a part of this goal, which is what the program reads: the same as a reader of a
+-- goal.
 pub record ReadsPart (engine : EngineValue) (frame : FrameValue) (settings : ParseSettings) (height : ℕ) (g : Goal)
     {X V : Type 0} (program : Prog V) (view : X → V) (old : Shared) (result : Result X ParseError) (new : Shared)
     : Type 0 where
