@@ -4,8 +4,8 @@ use Rattle.std.specs.List.{list_any}
 use Rattle.std.specs.Rc.{rc_str_bytes}
 use Rattle.rhai_lower.specs.Texts.{Text, same_text}
 use Rattle.rhai_lower.specs.View.{property_views}
-use Rattle.rhai_lower.specs.declared.ast.Expr.{Expr}
-use Rattle.rhai_lower.specs.declared.ast.Ident.{Ident}
+use Rattle.rhai_lower.specs.declared.expr.Expr.{Expr}
+use Rattle.rhai_lower.specs.declared.expr.Ident.{Ident}
 use Rattle.rhai_lower.proofs.Views.{view_unit, view_boolean, view_integer, view_character, view_string}
 use Rattle.rhai_grammar.specs.Literals.{has_key}
 

@@ -6,9 +6,9 @@ use Rattle.std.specs.Rc.{rc_str_bytes}
 use Rattle.rhai_lower.specs.Nodes.{Node, variable}
 use Rattle.rhai_lower.specs.Positions.{nowhere}
 use Rattle.rhai_lower.specs.View.{named, views, written}
-use Rattle.rhai_lower.specs.declared.ast.Expr.{Expr}
-use Rattle.rhai_lower.specs.declared.ast.Ident.{Ident}
-use Rattle.rhai_lower.specs.declared.ast.VariableExpr.{VariableExpr}
+use Rattle.rhai_lower.specs.declared.expr.Expr.{Expr}
+use Rattle.rhai_lower.specs.declared.expr.Ident.{Ident}
+use Rattle.rhai_lower.specs.declared.expr.VariableExpr.{VariableExpr}
 use Rattle.rhai_lower.specs.declared.position.Position.{Position}
 use Rattle.rhai_grammar.specs.Causes.{ModuleUndefined, refusal}
 use Rattle.rhai_grammar.specs.Contexts.{Context, Live}

@@ -5,7 +5,7 @@ ghost use Rattle.std.specs.Rc.{rc_str_bytes};
 ghost use Rattle.rhai_lower.specs.Nodes.{block_value, braces, one_node, pointer};
 ghost use Rattle.rhai_lower.specs.Positions.{nowhere};
 ghost use Rattle.rhai_lower.specs.View.{block_view, called, shared_of, statement_views, view, views};
-ghost use Rattle.rhai_lower.specs.declared.ast.FnCallExpr.{out-FnCallExpr};
+ghost use Rattle.rhai_lower.specs.declared.expr.FnCallExpr.{out-FnCallExpr};
 ghost use Rattle.rhai_grammar.specs.Closures.{all_names, captured_nodes, closure_name, closure_value, curry};
 ghost use Rattle.rhai_grammar.specs.Closures.{ended_closure};
 ghost use Rattle.rhai_grammar.specs.Closures.{shared_names};

@@ -11,7 +11,7 @@ use Rattle.std.specs.Prelude.{option_map}
 use Rattle.rhai_lower.specs.Nodes as node
 use Rattle.rhai_lower.specs.Nodes.{Cases, Node}
 use Rattle.rhai_lower.specs.View.{case_views}
-use Rattle.rhai_lower.specs.declared.ast.SwitchCase.{SwitchCase}
+use Rattle.rhai_lower.specs.declared.stmt.SwitchCase.{SwitchCase}
 use Rattle.rhai_grammar.specs.CaseValues.{same_value}
 use Rattle.rhai_grammar.specs.Switches.{with_value}
 use Rattle.rhai_cases.specs.contracts.case_index.CaseKeyPartialEq.TheImpl.{eq-value}

@@ -6,7 +6,7 @@ use Rattle.rhai_lower.specs.Nodes as node
 use Rattle.rhai_lower.specs.Nodes.{Cases, Node, boolean, call, character, integer, pointer, string, unit}
 use Rattle.rhai_lower.specs.Texts.{Text}
 use Rattle.rhai_lower.specs.View.{case_views, view}
-use Rattle.rhai_lower.specs.declared.ast.SwitchCase.{SwitchCase, out-SwitchCase}
+use Rattle.rhai_lower.specs.declared.stmt.SwitchCase.{SwitchCase, out-SwitchCase}
 use Rattle.rhai_lower.specs.declared.position.Position.{Position}
 use Rattle.rhai_grammar.specs.CaseValues.{IntegerRange, inclusion, range_of, range_over, same_range, same_value}
 use Rattle.rhai_cases.specs.CaseKeys.{IsKey, Keyed, digest_of, first_same, has_digest, numbered, parts_key, place_in, plain_value, range_value, with_digest}

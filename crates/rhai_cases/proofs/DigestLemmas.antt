@@ -12,8 +12,8 @@ use Rattle.std.specs.Rc.{rc_str_bytes}
 use Rattle.std.specs.declared.rc.RcStr.{RcStr}
 use Rattle.std.specs.declared.alloc.Global.{Global}
 use Rattle.rhai_lower.specs.View.{property_views, view}
-use Rattle.rhai_lower.specs.declared.ast.Expr.{Expr}
-use Rattle.rhai_lower.specs.declared.ast.Ident.{Ident}
+use Rattle.rhai_lower.specs.declared.expr.Expr.{Expr}
+use Rattle.rhai_lower.specs.declared.expr.Ident.{Ident}
 use Rattle.rhai_lower.specs.Texts.{Text, same_text}
 use Rattle.rhai_lower.specs.Nodes.{Node, Nodes, Properties, array, boolean, call, character, integer, no_nodes, no_properties, object_map, one_node, one_property, pointer, string, unit, Cases}
 use Rattle.rhai_grammar.specs.CaseValues.{IntegerRange, property_value, range_of, same_boolean, same_properties, same_range, same_value, same_values}

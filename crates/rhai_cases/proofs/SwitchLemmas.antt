@@ -15,15 +15,15 @@ use Rattle.rhai_lower.specs.Nodes as node
 use Rattle.rhai_lower.specs.Nodes.{Arms, Called, Cases, Statement, one_node, Node, Nodes, Properties, array, boolean, call, character, integer, no_nodes, no_properties, object_map, one_property, pointer, string, unit}
 use Rattle.rhai_lower.specs.View.{arm_views, case_views, property_views, view, views}
 use Rattle.rhai_lower.proofs.Views.{arm_views_push, case_views_push}
-use Rattle.rhai_lower.specs.declared.ast.BinaryExpr.{BinaryExpr}
+use Rattle.rhai_lower.specs.declared.expr.BinaryExpr.{BinaryExpr}
 use Rattle.rhai_lower.specs.declared.node.RangeCase.{RangeCase}
-use Rattle.rhai_lower.specs.declared.ast.SwitchCase.{SwitchCase, out-SwitchCase}
-use Rattle.rhai_lower.specs.declared.ast.SwitchCasesCollection.{SwitchCasesCollection, out-SwitchCasesCollection}
+use Rattle.rhai_lower.specs.declared.stmt.SwitchCase.{SwitchCase, out-SwitchCase}
+use Rattle.rhai_lower.specs.declared.stmt.SwitchCasesCollection.{SwitchCasesCollection, out-SwitchCasesCollection}
 use Rattle.rhai_grammar.specs.Statements.{ends_itself}
 use Rattle.rhai_grammar.specs.Switches.{Collected, arm_count, arm_fault, ends_arm, fault_from, has_ranges, listed_range, range_case, with_case, with_value}
 use Rattle.rhai_trees.specs.Statements.{is_empty}
-use Rattle.rhai_lower.specs.declared.ast.Expr.{Expr}
-use Rattle.rhai_lower.specs.declared.ast.Ident.{Ident}
+use Rattle.rhai_lower.specs.declared.expr.Expr.{Expr}
+use Rattle.rhai_lower.specs.declared.expr.Ident.{Ident}
 use Rattle.rhai_lower.specs.declared.position.Position.{Position}
 use Rattle.rhai_grammar.specs.CaseValues.{IntegerRange, inclusion, is_empty_range, property_value, range_of, range_over, same_properties, same_range, same_value, same_values}
 use Rattle.rhai_grammar.specs.Literals.{has_key, property_count}

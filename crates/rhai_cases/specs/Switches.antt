@@ -9,7 +9,7 @@ use Rattle.rhai_lower.specs.Nodes as node
 use Rattle.rhai_lower.specs.Nodes.{Cases, Node, Nodes, Properties, array, no_nodes, no_properties, object_map, one_node}
 use Rattle.rhai_lower.specs.Nodes.{one_property, start_of, with_arm}
 use Rattle.rhai_lower.specs.View.{arm_views, case_views}
-use Rattle.rhai_lower.specs.declared.ast.SwitchCasesCollection.{SwitchCasesCollection, out-SwitchCasesCollection}
+use Rattle.rhai_lower.specs.declared.stmt.SwitchCasesCollection.{SwitchCasesCollection, out-SwitchCasesCollection}
 use Rattle.rhai_grammar.specs.CaseValues as value
 use Rattle.rhai_grammar.specs.CaseValues.{is_empty_range, is_literal_value, range_of, same_value}
 use Rattle.rhai_grammar.specs.Causes as cause

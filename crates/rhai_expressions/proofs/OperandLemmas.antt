@@ -1,5 +1,5 @@
 -- What follows the first part of an operand.
-use Rattle.std.proofs.Common.{◌≡◌, ◌∙◌, ◌+◌, ◌≤◌, [], ap, arith, false, if◌then◌else◌, refl, subst, sym, true}
+use Rattle.std.proofs.Common.{◌≡◌, ◌∙◌, ◌+◌, ◌-◌, ◌≤◌, [], ℕ, ap, arith, false, if◌then◌else◌, refl, subst, sym, true}
 use Rattle.rhai_lower.specs.Lexemes.{Lexeme, Sign}
 use Rattle.rhai_lower.specs.Nodes.{Node}
 use Rattle.rhai_lower.specs.declared.token.Token.TheVariants.{EOF}
@@ -16,12 +16,14 @@ use Rattle.rhai_grammar.specs.declared.error.ParseError.{ParseError}
 use Rattle.rhai_grammar.specs.declared.role.Beginning.{Beginning}
 use Rattle.rhai_grammar.specs.declared.role.Beginning.TheVariants as begin
 use Rattle.rhai_readers.specs.PlainPrimaries.{is_plain}
+use Rattle.rhai_grammar.specs.Settings.{one_more}
+use Rattle.rhai_reading.specs.Nesting.{Nesting, entered, left_one}
 use Rattle.rhai_reading.specs.Reading.{Call, Fail, Links, Operand, Postfix, Primary, operand_by, sign_on, tested}
 use Rattle.rhai_reading.specs.Running as R
 use Rattle.rhai_reading.specs.Running.{Caller, Progress, next_item, entering, exec, guarded, leaving, after_peek, after_take, nested, result_of}
 use Rattle.rhai_reading.proofs.Outcomes.{operand_other, operand_sign, outcome, sign_outcome}
 use Rattle.rhai_reading.proofs.Steps.{guarded_is, looked, nested_is, run_step}
-use Rattle.rhai_expressions.specs.Operands.{operand_ends}
+use Rattle.rhai_expressions.specs.Operands.{Counted, operand_ends}
 
 -- an operand without a sign is its first part, and what follows that
 operand_runs : (c : Context) (w : Live) (s : Progress) → is_memory (next_item s).lexeme ≡ false → is_sign (beginning (next_item s).lexeme) ≡ false
@@ -110,6 +112,25 @@ signed_fails c d w s h e t fails = (
   fails.1,
 )
 
+-- ---- a reader that has been counted
+
+untraced : (s : Progress) → Counted s → leaving (entering s) ≡ s
+untraced s counted = ap (λ (n : Nesting). record s { nesting = n }) counted
+
+one_more_again : (n : ℕ) → one_more (one_more n - 1) ≡ one_more n
+unfolding one_more
+one_more_again n = omega arith
+
+entered_again : (n : Nesting) → left_one (entered (left_one (entered n))) ≡ left_one (entered n)
+unfolding one_more
+entered_again n = grind arith
+
+-- where one was entered and left, whatever was read in it without another
+pub counted_once : (s e u : Progress) {t : Progress} → e ≡ entering s → u.nesting ≡ e.nesting → t ≡ leaving u → Counted t
+counted_once s e u {t} here same there =
+    let nests : t.nesting ≡ left_one (entered s.nesting) = ap (λ (p : Progress). p.nesting) there ∙ ap left_one (same ∙ ap (λ (p : Progress). p.nesting) here) in
+    subst (λ n. left_one (entered n) ≡ n) (sym nests) (entered_again s.nesting)
+
 module _ (c : Context) (w : Live) (x : Node) (s t : Progress) (less : left t.cursor.tokens ≤ left s.cursor.tokens) where
   call : Caller
   call = guarded (Operand c w) s
@@ -136,9 +157,10 @@ module _ (c : Context) (w : Live) (x : Node) (s t : Progress) (less : left t.cur
       ap (λ o. R.and_then (R.left_so o) after) (guarded_is g s (Postfix c w x) (entering t) (omega (arith, less)) ∙ uncalled)
       ∙ ap (λ o. R.and_then o (λ links v. exec call (tested (chained x links) (module_fault c w x)) v)) (guarded_is g s (Links w (spot_after_operand c x)) u (omega (arith, less)) ∙ unlinked)
 
-  pub ends_plain_at : {v u : Progress} → v ≡ entering t → result_of (Postfix c w x) v ≡ R.Done x v → u ≡ leaving v → result_of (Links w (spot_after_operand c x)) u ≡ R.Done [] u
-      → exec (guarded (Operand c w) s) (operand_ends c w x) t ≡ exec (guarded (Operand c w) s) (tested x (module_fault c w x)) u
-  ends_plain_at {v} {u} entered uncalled returned unlinked =
-      let there : u ≡ leaving (entering t) = returned ∙ ap leaving entered in
-      ends_plain (subst (λ q. result_of (Postfix c w x) q ≡ R.Done x q) entered uncalled) (subst (λ q. result_of (Links w (spot_after_operand c x)) q ≡ R.Done [] q) there unlinked)
-      ∙ ap (λ q. exec (guarded (Operand c w) s) (tested x (module_fault c w x)) q) (sym there)
+  -- the same where its readers have been counted
+  pub ends_counted : Counted t → result_of (Postfix c w x) (entering t) ≡ R.Done x (entering t) → result_of (Links w (spot_after_operand c x)) t ≡ R.Done [] t
+      → exec (guarded (Operand c w) s) (operand_ends c w x) t ≡ exec (guarded (Operand c w) s) (tested x (module_fault c w x)) t
+  ends_counted counted uncalled unlinked =
+      let back : leaving (entering t) ≡ t = untraced t counted in
+      ends_plain uncalled (subst (λ q. result_of (Links w (spot_after_operand c x)) q ≡ R.Done [] q) (sym back) unlinked)
+      ∙ ap (λ q. exec (guarded (Operand c w) s) (tested x (module_fault c w x)) q) back

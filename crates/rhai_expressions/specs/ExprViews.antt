@@ -3,7 +3,7 @@ use Rattle.std.specs.Prelude.{Bool, List, Vec}
 use Rattle.std.specs.declared.alloc.Global.{Global}
 use Rattle.rhai_lower.specs.Nodes.{Node, Nodes, variable}
 use Rattle.rhai_lower.specs.View.{named}
-use Rattle.rhai_lower.specs.declared.ast.VariableExpr.{VariableExpr}
+use Rattle.rhai_lower.specs.declared.expr.VariableExpr.{VariableExpr}
 use Rattle.std.specs.declared.boxed.Box.{Box}
 use Rattle.rhai_lower.specs.declared.position.Position.{Position}
 use Rattle.rhai_grammar.specs.Chains as chain

@@ -1,14 +1,15 @@
 -- How the contracts speak of a run of operators, one operator after the other.
-use Rattle.std.specs.Prelude.{◌≡◌, ℕ, Option, Some, None, if◌then◌else◌}
+use Rattle.std.specs.Prelude.{◌≡◌, ℕ, IsSome, Option, Some, None, false, if◌then◌else◌}
 use Rattle.rhai_lower.specs.Lexemes.{Lexeme, lexeme}
 use Rattle.rhai_lower.specs.Nodes.{Node}
 use Rattle.rhai_lower.specs.declared.position.Position.{Position}
 use Rattle.rhai_trees.specs.Chains.{chain_view}
 use Rattle.rhai_grammar.specs.Contexts.{Context, Live}
+use Rattle.rhai_grammar.specs.Delivered.{is_end, is_memory}
 use Rattle.rhai_grammar.specs.Starts.{role_after}
 use Rattle.rhai_reading.specs.Reading.{BinaryOp, Call, NextOperator, Peek, Prog, Ret, RightOperand, Take}
 use Rattle.rhai_reading.specs.Reading.{binary_on, raised}
-use Rattle.rhai_reading.specs.Running.{Progress, exec, guarded, result_of}
+use Rattle.rhai_reading.specs.Running.{Progress, exec, guarded, next_item, result_of}
 use Rattle.rhai_grammar.specs.declared.filter.ExprFilter.{ExprFilter}
 use Rattle.rhai_leaves.specs.Operators.{continues}
 use Rattle.rhai_leaves.specs.declared.operators.Operator.{Operator}
@@ -39,3 +40,9 @@ right_side context live at =
 
 abbrev pub side_view : Side → Lexeme × Position × Node
 side_view side = (lexeme side.op_token, side.pos, chain_view side.rhs)
+
+-- This operator comes next, or none does, and that token has been looked at.
+pub record Follows (filter : ExprFilter) (next : Option Operator) (s : Progress) : Type 0 where
+  pub is : NextIs filter next s
+  pub readable : is_memory (next_item s).lexeme ≡ false
+  pub more : IsSome next → is_end (next_item s).lexeme ≡ false

@@ -4,19 +4,14 @@ pub(crate) mod asks;
 pub(crate) mod paths;
 pub(crate) mod runs;
 
-ghost use Rattle.std.specs.Prelude.{◌≡◌, ◌≤◌, [], false, true};
+ghost use Rattle.std.specs.Prelude.{◌≡◌, true};
 ghost use Rattle.rhai_lower.specs.Nodes.{no_nodes};
-ghost use Rattle.rhai_grammar.specs.Beginnings.{beginning};
-ghost use Rattle.rhai_grammar.specs.Cursors.{left};
-ghost use Rattle.rhai_grammar.specs.Delivered.{is_memory};
-ghost use Rattle.rhai_leaves.specs.OperandEnds.{ends_operand};
-ghost use Rattle.rhai_reading.specs.Running.{Done, Gives, Progress, next_item, exec, guarded, after_peek, result_of};
 ghost use Rattle.rhai_readers.specs.Frames.{context_of, live_of};
-ghost use Rattle.rhai_expressions.specs.Operands.{operand_ends};
-ghost use Rattle.rhai_readers.specs.Readers.{Covers, GoesOn, ReadsAs, arguments, expression, items, links};
+ghost use Rattle.rhai_expressions.specs.Operands.{Counted, EndsHere, NoEnds, operand_ends};
+ghost use Rattle.rhai_readers.specs.Parts.{Begins, ReadsPart};
+ghost use Rattle.rhai_readers.specs.Readers.{Covers, ReadsAs, arguments, expression, items};
 ghost use Rattle.rhai_readers.specs.Readers.{operand, postfix};
 ghost use Rattle.rhai_readers.specs.Readers.{right_operand, state_of, views_of};
-ghost use Rattle.rhai_readers.specs.Heights.{Stays};
 ghost use Rattle.rhai_readers.specs.PlainPrimaries.{is_plain};
 ghost use Rattle.rhai_trees.specs.Chains.{chain_view};
 
@@ -230,10 +225,7 @@ impl<R: LentReaders> Reader<'_, R> {
         settings: ParseSettings,
         begins: Beginning,
     ) -> ParseResult<Chain>
-        requires begins { begins ≡ beginning (next_item (state_of shared.old)).lexeme }
-        requires plain { is_plain begins ≡ true }
-        requires looked { state_of shared.old ≡ after_peek (state_of shared.old) }
-        requires readable { is_memory (next_item (state_of shared.old)).lexeme ≡ false }
+        requires begins { Begins begins (state_of shared.old) × (is_plain begins ≡ true) }
         requires lent { Covers (R.lent self.now.readers) (operand self.now.engine.now frame.now settings) shared.old }
         ensures { ReadsAs self.now.engine.now frame.now settings 3 operand chain_view shared.old result shared.new }
     {
@@ -251,9 +243,7 @@ impl<R: LentReaders> Reader<'_, R> {
         settings: ParseSettings,
         begins: Beginning,
     ) -> ParseResult<Chain>
-        requires begins { begins ≡ beginning (next_item (state_of shared.old)).lexeme }
-        requires looked { state_of shared.old ≡ after_peek (state_of shared.old) }
-        requires readable { is_memory (next_item (state_of shared.old)).lexeme ≡ false }
+        requires begins { Begins begins (state_of shared.old) }
         requires lent { Covers (R.lent self.now.readers) (operand self.now.engine.now frame.now settings) shared.old }
         ensures { ReadsAs self.now.engine.now frame.now settings 3 operand chain_view shared.old result shared.new }
     {
@@ -279,39 +269,22 @@ impl<R: LentReaders> Reader<'_, R> {
         }
     }
 
-    // Nothing calls an operand before this token, and it is no part of a path.
+    // Before this token nothing calls an operand, it is no part of a path, and no link follows it.
     #[inline(always)]
-    fn pass_postfix(
+    fn pass_ends(
         &self,
         shared: &Shared<'_>,
         frame: &Frame<'_>,
         settings: ParseSettings,
         operand: &Chain,
     )
-        requires looked { state_of shared.now ≡ after_peek (state_of shared.now) }
-        requires readable { is_memory (next_item (state_of shared.now)).lexeme ≡ false }
-        requires ends { ends_operand (next_item (state_of shared.now)).lexeme ≡ true }
-        ensures reads { result_of (postfix (chain_view operand.now) self.now.engine.now frame.now settings)
-            (state_of shared.now) ≡ Done (chain_view operand.now) (state_of shared.now) }
+        requires { EndsHere (state_of shared.now) }
+        ensures { NoEnds (context_of self.now.engine.now frame.now settings) (live_of frame.now)
+            (chain_view operand.now) (state_of shared.now) }
     {}
 
-    // No link follows an operand before this token.
-    #[inline(always)]
-    fn pass_links(
-        &self,
-        shared: &Shared<'_>,
-        frame: &Frame<'_>,
-        settings: ParseSettings,
-        operand: &Chain,
-    )
-        requires looked { state_of shared.now ≡ after_peek (state_of shared.now) }
-        requires readable { is_memory (next_item (state_of shared.now)).lexeme ≡ false }
-        requires ends { ends_operand (next_item (state_of shared.now)).lexeme ≡ true }
-        ensures reads { result_of (links (chain_view operand.now) self.now.engine.now frame.now settings)
-            (state_of shared.now) ≡ Done [] (state_of shared.now) }
-    {}
-
-    // Reads what calls an operand, and its links.
+    // Reads what calls an operand of one token, and its links. Where there are none, no reader is entered for them:
+    // that of the token has been counted.
     #[inline(always)]
     #[tactic(auto, using(crate::proofs::ExprReaders::parse_ends))]
     fn parse_ends(
@@ -321,13 +294,11 @@ impl<R: LentReaders> Reader<'_, R> {
         settings: ParseSettings,
         primary: Chain,
     ) -> ParseResult<Chain>
+        requires counted { Counted (state_of shared.old) }
         requires lent { Covers (R.lent self.now.readers) (operand self.now.engine.now frame.now settings) shared.old }
-        ensures goes_on { GoesOn shared.old shared.new }
-        ensures stays { Stays self.now.engine.now frame.now settings 3 shared.old shared.new }
-        ensures reads { (s : Progress) → left (state_of shared.old).cursor.tokens ≤ left s.cursor.tokens
-            → Gives chain_view (exec (guarded (operand self.now.engine.now frame.now settings) s) (operand_ends
-            (context_of self.now.engine.now frame.now settings) (live_of frame.now) (chain_view primary))
-            (state_of shared.old)) result (state_of shared.new) }
+        ensures { ReadsPart self.now.engine.now frame.now settings 3 (operand self.now.engine.now frame.now settings)
+            (operand_ends (context_of self.now.engine.now frame.now settings) (live_of frame.now) (chain_view primary))
+            chain_view shared.old result shared.new }
     {
         if !ends_here(shared)? {
             return match self.parse_all_ends(shared, frame, settings, primary) {
@@ -335,8 +306,7 @@ impl<R: LentReaders> Reader<'_, R> {
                 Err(error) => Err(error),
             };
         }
-        nested!(shared, self.pass_postfix(shared, frame, settings, &primary));
-        self.pass_links(shared, frame, settings, &primary);
+        self.pass_ends(shared, frame, settings, &primary);
         end_plain(frame, settings, primary)
     }
 
@@ -351,12 +321,9 @@ impl<R: LentReaders> Reader<'_, R> {
         primary: Chain,
     ) -> ParseResult<Chain>
         requires lent { Covers (R.lent self.now.readers) (operand self.now.engine.now frame.now settings) shared.old }
-        ensures goes_on { GoesOn shared.old shared.new }
-        ensures stays { Stays self.now.engine.now frame.now settings 3 shared.old shared.new }
-        ensures reads { (s : Progress) → left (state_of shared.old).cursor.tokens ≤ left s.cursor.tokens
-            → Gives chain_view (exec (guarded (operand self.now.engine.now frame.now settings) s) (operand_ends
-            (context_of self.now.engine.now frame.now settings) (live_of frame.now) (chain_view primary))
-            (state_of shared.old)) result (state_of shared.new) }
+        ensures { ReadsPart self.now.engine.now frame.now settings 3 (operand self.now.engine.now frame.now settings)
+            (operand_ends (context_of self.now.engine.now frame.now settings) (live_of frame.now) (chain_view primary))
+            chain_view shared.old result shared.new }
     {
         let operand = nested!(shared, self.parse_postfix(shared, frame, settings, primary))?;
         match self.parse_links(shared, frame, settings, &operand) {

@@ -4,9 +4,8 @@
 pub(crate) mod asks;
 
 ghost use Rattle.std.specs.Prelude.{◌≡◌, true};
-ghost use Rattle.rhai_grammar.specs.Beginnings.{beginning};
 ghost use Rattle.rhai_readers.specs.Readers.{ReadsAs, primary, state_of};
-ghost use Rattle.rhai_reading.specs.Running.{next_item};
+ghost use Rattle.rhai_readers.specs.Parts.{Begins};
 ghost use Rattle.rhai_readers.specs.PlainPrimaries.{is_plain};
 ghost use Rattle.rhai_trees.specs.Chains.{chain_view};
 
@@ -30,9 +29,10 @@ impl<R: LentReaders> Reader<'_, R> {
         settings: ParseSettings,
         begins: Beginning,
     ) -> ParseResult<Chain>
-        requires begins { begins ≡ beginning (next_item (state_of shared.old)).lexeme }
-        requires plain { is_plain begins ≡ true }
-        ensures { ReadsAs self.now.engine.now frame.now settings 0 primary chain_view shared.old result shared.new }
+        requires { Begins begins (state_of shared.old) × (is_plain begins ≡ true) }
+        ensures reads { ReadsAs self.now.engine.now frame.now settings 0 primary chain_view shared.old result
+            shared.new }
+        ensures counts { shared.new.counts ≡ shared.old.counts }
     {
         let alloc = self.engine.alloc();
         let (token, pos) = peek(shared.input)?;

@@ -16,7 +16,7 @@ use Rattle.rhai_lower.specs.View.{arm_views, block_view, case_views, property_vi
 use Rattle.rhai_json.specs.Fields.{put}
 use Rattle.rhai_json.specs.Trees.{arms_json, block_json, cases_json, list_start, node_json, nodes_json}
 use Rattle.rhai_json.specs.Trees.{properties_json, statements_json}
-use Rattle.rhai_lower.specs.declared.ast.Expr.{Expr}
+use Rattle.rhai_lower.specs.declared.expr.Expr.{Expr}
 use Rattle.rhai_json.specs.declared.printer.Part.{Part}
 use Rattle.rhai_json.specs.declared.printer.Part.TheVariants as part
 use Rattle.rhai_json.specs.declared.printer.Printer.{Printer}

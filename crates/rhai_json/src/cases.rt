@@ -1,7 +1,7 @@
 //! What leads to the arms of a `switch`.
 
 ghost use Rattle.std.specs.Prelude.{◌≡◌, OnOk, codes};
-ghost use Rattle.rhai_lower.specs.declared.ast.SwitchCase.{out-SwitchCase};
+ghost use Rattle.rhai_lower.specs.declared.stmt.SwitchCase.{out-SwitchCase};
 ghost use Rattle.rhai_json.specs.Fields.{list_field, numbers_field};
 ghost use Rattle.rhai_json.specs.Trees.{range_value};
 

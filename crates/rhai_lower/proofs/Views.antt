@@ -9,21 +9,21 @@ use Rattle.std.specs.declared.rc.RcStr.{RcStr}
 use Rattle.rhai_lower.specs.Lexemes.{lexeme}
 use Rattle.rhai_lower.specs.Nodes.{unit, boolean, integer, character, string, interpolated, array, object_map, pointer, variable, this, property, call, method_call, dot, index, conjunction, disjunction, coalescing, block_value, one_node, one_property, one_statement, one_arm, one_case, with_node, with_property, with_statement, with_arm, with_case, noop, if_statement, switch_statement, while_statement, do_statement, for_statement, var_statement, assignment, expression, block_statement, try_catch, break_loop, return_statement, import_statement, export_statement, share, absent, present, braces}
 use Rattle.rhai_lower.specs.View.{arm_views, block_view, called, case_views, named, property_views, shared_of, statement_view, statement_views, view, views}
-use Rattle.rhai_lower.specs.declared.ast.BinaryExpr.{BinaryExpr, out-BinaryExpr}
-use Rattle.rhai_lower.specs.declared.ast.Expr.{Expr, the_lemmas}
-use Rattle.rhai_lower.specs.declared.ast.Expr.TheVariants as expr
-use Rattle.rhai_lower.specs.declared.ast.FlowControl.{FlowControl, out-FlowControl}
-use Rattle.rhai_lower.specs.declared.ast.FnCallExpr.{FnCallExpr, out-FnCallExpr}
-use Rattle.rhai_lower.specs.declared.ast.ForLoop.{ForLoop, out-ForLoop}
-use Rattle.rhai_lower.specs.declared.ast.Ident.{Ident}
+use Rattle.rhai_lower.specs.declared.expr.BinaryExpr.{BinaryExpr, out-BinaryExpr}
+use Rattle.rhai_lower.specs.declared.expr.Expr.{Expr, the_lemmas}
+use Rattle.rhai_lower.specs.declared.expr.Expr.TheVariants as expr
+use Rattle.rhai_lower.specs.declared.stmt.FlowControl.{FlowControl, out-FlowControl}
+use Rattle.rhai_lower.specs.declared.expr.FnCallExpr.{FnCallExpr, out-FnCallExpr}
+use Rattle.rhai_lower.specs.declared.stmt.ForLoop.{ForLoop, out-ForLoop}
+use Rattle.rhai_lower.specs.declared.expr.Ident.{Ident}
 use Rattle.rhai_lower.specs.declared.node.LinkFlags.{LinkFlags}
-use Rattle.rhai_lower.specs.declared.ast.LoopControl.{LoopControl, out-LoopControl}
-use Rattle.rhai_lower.specs.declared.ast.Stmt.{Stmt}
-use Rattle.rhai_lower.specs.declared.ast.Stmt.TheVariants as stmt
-use Rattle.rhai_lower.specs.declared.ast.StmtBlock.{StmtBlock, out-StmtBlock}
-use Rattle.rhai_lower.specs.declared.ast.SwitchCase.{SwitchCase, out-SwitchCase}
-use Rattle.rhai_lower.specs.declared.ast.SwitchCasesCollection.{SwitchCasesCollection, out-SwitchCasesCollection}
-use Rattle.rhai_lower.specs.declared.ast.VariableExpr.{VariableExpr}
+use Rattle.rhai_lower.specs.declared.stmt.LoopControl.{LoopControl, out-LoopControl}
+use Rattle.rhai_lower.specs.declared.stmt.Stmt.{Stmt}
+use Rattle.rhai_lower.specs.declared.stmt.Stmt.TheVariants as stmt
+use Rattle.rhai_lower.specs.declared.stmt.StmtBlock.{StmtBlock, out-StmtBlock}
+use Rattle.rhai_lower.specs.declared.stmt.SwitchCase.{SwitchCase, out-SwitchCase}
+use Rattle.rhai_lower.specs.declared.stmt.SwitchCasesCollection.{SwitchCasesCollection, out-SwitchCasesCollection}
+use Rattle.rhai_lower.specs.declared.expr.VariableExpr.{VariableExpr}
 use Rattle.rhai_lower.specs.declared.position.Position.{Position}
 use Rattle.rhai_lower.specs.declared.token.Token.{Token}
 

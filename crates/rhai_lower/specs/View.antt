@@ -11,20 +11,20 @@ use Rattle.rhai_lower.specs.Nodes.{Called, Named, Node, Nodes, Optional, Propert
 use Rattle.rhai_lower.specs.Nodes.{Arms}
 use Rattle.rhai_lower.specs.Nodes.{Cases, Function, no_nodes, one_node, absent, present, no_properties, one_property}
 use Rattle.rhai_lower.specs.Nodes.{no_statements, one_statement, braces, no_arms, one_arm, no_cases, one_case}
-use Rattle.rhai_lower.specs.declared.ast.Expr.{Expr, fold-Expr}
-use Rattle.rhai_lower.specs.declared.ast.Expr.TheOpen.{Expr-F, Stmt-F, BinaryExpr-F, FlowControl-F, FnCallExpr-F}
-use Rattle.rhai_lower.specs.declared.ast.Expr.TheOpen.{ForLoop-F, LoopControl-F, StmtBlock-F, SwitchCase-F}
-use Rattle.rhai_lower.specs.declared.ast.Expr.TheOpen.{SwitchCasesCollection-F}
-use Rattle.rhai_lower.specs.declared.ast.BinaryExpr.{BinaryExpr, out-BinaryExpr}
-use Rattle.rhai_lower.specs.declared.ast.FnCallExpr.{FnCallExpr, out-FnCallExpr}
-use Rattle.rhai_lower.specs.declared.ast.Ident.{Ident}
-use Rattle.rhai_lower.specs.declared.ast.Namespace.{Namespace}
+use Rattle.rhai_lower.specs.declared.expr.Expr.{Expr, fold-Expr}
+use Rattle.rhai_lower.specs.declared.expr.Expr.TheOpen.{Expr-F, Stmt-F, BinaryExpr-F, FlowControl-F, FnCallExpr-F}
+use Rattle.rhai_lower.specs.declared.expr.Expr.TheOpen.{ForLoop-F, LoopControl-F, StmtBlock-F, SwitchCase-F}
+use Rattle.rhai_lower.specs.declared.expr.Expr.TheOpen.{SwitchCasesCollection-F}
+use Rattle.rhai_lower.specs.declared.expr.BinaryExpr.{BinaryExpr, out-BinaryExpr}
+use Rattle.rhai_lower.specs.declared.expr.FnCallExpr.{FnCallExpr, out-FnCallExpr}
+use Rattle.rhai_lower.specs.declared.expr.Ident.{Ident}
+use Rattle.rhai_lower.specs.declared.expr.Namespace.{Namespace}
 use Rattle.rhai_lower.specs.declared.node.RangeCase.{RangeCase}
 use Rattle.rhai_lower.specs.declared.ast.ScriptFuncDef.{ScriptFuncDef}
-use Rattle.rhai_lower.specs.declared.ast.Stmt.{Stmt, fold-Stmt}
-use Rattle.rhai_lower.specs.declared.ast.StmtBlock.{StmtBlock, fold-StmtBlock}
-use Rattle.rhai_lower.specs.declared.ast.SwitchCase.{SwitchCase, out-SwitchCase}
-use Rattle.rhai_lower.specs.declared.ast.VariableExpr.{VariableExpr}
+use Rattle.rhai_lower.specs.declared.stmt.Stmt.{Stmt, fold-Stmt}
+use Rattle.rhai_lower.specs.declared.stmt.StmtBlock.{StmtBlock, fold-StmtBlock}
+use Rattle.rhai_lower.specs.declared.stmt.SwitchCase.{SwitchCase, out-SwitchCase}
+use Rattle.rhai_lower.specs.declared.expr.VariableExpr.{VariableExpr}
 use Rattle.rhai_lower.specs.declared.position.Position.{Position}
 
 -- names with their positions
@@ -74,16 +74,16 @@ abbrev pub optional_of : Option (Box Node Global) → Optional
 optional_of None = absent
 optional_of (Some n) = present (box_value n)
 
--- The views of the structs between expressions and statements, given those of their parts: two expressions, a guard
--- with two blocks, a call, the parts of `for`, a guard with a block, a case, and all cases of a `switch`.
+-- The views of the structs between expressions and statements, given those of their parts: two expressions, a call, a
+-- guard with two blocks, the parts of `for`, a guard with a block, a case, and all cases of a `switch`.
 abbrev pub Pair : Type 0
 Pair = Node × Node
 
-abbrev pub Flow : Type 0
-Flow = Node × Block × Block
-
 abbrev pub Seen : Type 0
 Seen = Called × Nodes
+
+abbrev pub Flow : Type 0
+Flow = Node × Block × Block
 
 abbrev pub Rounds : Type 0
 Rounds = Text × Option Text × Node × Block
@@ -97,13 +97,10 @@ Case = Node × List ℕ
 abbrev pub Choice : Type 0
 Choice = Arms × Cases × List RangeCase × Option ℕ
 
-abbrev pub pair_step : BinaryExpr-F Node Statement Pair Flow Seen Rounds Guarded Block Case Choice → Pair
+abbrev pub pair_step : BinaryExpr-F Node Statement Pair Seen Flow Rounds Guarded Block Case Choice → Pair
 pair_step b = (b.lhs, b.rhs)
 
-abbrev pub flow_step : FlowControl-F Node Statement Pair Flow Seen Rounds Guarded Block Case Choice → Flow
-flow_step f = (f.expr, f.body, f.branch)
-
-abbrev pub call_step : FnCallExpr-F Node Statement Pair Flow Seen Rounds Guarded Block Case Choice → Seen
+abbrev pub call_step : FnCallExpr-F Node Statement Pair Seen Flow Rounds Guarded Block Case Choice → Seen
 call_step c = (
   record {
     name = rc_str_bytes c.name;
@@ -117,22 +114,25 @@ call_step c = (
   nodes_of c.args.items,
 )
 
-abbrev pub rounds_step : ForLoop-F Node Statement Pair Flow Seen Rounds Guarded Block Case Choice → Rounds
+abbrev pub flow_step : FlowControl-F Node Statement Pair Seen Flow Rounds Guarded Block Case Choice → Flow
+flow_step f = (f.expr, f.body, f.branch)
+
+abbrev pub rounds_step : ForLoop-F Node Statement Pair Seen Flow Rounds Guarded Block Case Choice → Rounds
 rounds_step f = (rc_str_bytes f.name, option_map rc_str_bytes f.counter, f.expr, f.body)
 
-abbrev pub guarded_step : LoopControl-F Node Statement Pair Flow Seen Rounds Guarded Block Case Choice → Guarded
+abbrev pub guarded_step : LoopControl-F Node Statement Pair Seen Flow Rounds Guarded Block Case Choice → Guarded
 guarded_step l = (l.expr, l.body)
 
-abbrev pub block_step : StmtBlock-F Node Statement Pair Flow Seen Rounds Guarded Block Case Choice → Block
+abbrev pub block_step : StmtBlock-F Node Statement Pair Seen Flow Rounds Guarded Block Case Choice → Block
 block_step b = braces (statements_of b.statements.items) b.start b.end
 
-abbrev pub case_step : SwitchCase-F Node Statement Pair Flow Seen Rounds Guarded Block Case Choice → Case
+abbrev pub case_step : SwitchCase-F Node Statement Pair Seen Flow Rounds Guarded Block Case Choice → Case
 case_step c = (c.value, c.indices.items)
 
-abbrev pub choice_step : SwitchCasesCollection-F Node Statement Pair Flow Seen Rounds Guarded Block Case Choice → Choice
+abbrev pub choice_step : SwitchCasesCollection-F Node Statement Pair Seen Flow Rounds Guarded Block Case Choice → Choice
 choice_step c = (arms_of c.expressions.items, cases_of c.cases.items, c.ranges.items, c.def_case)
 
-abbrev pub expr_step : Expr-F Node Statement Pair Flow Seen Rounds Guarded Block Case Choice → Node
+abbrev pub expr_step : Expr-F Node Statement Pair Seen Flow Rounds Guarded Block Case Choice → Node
 expr_step (Expr-F.Unit p) = Nodes.unit p
 expr_step (Expr-F.BoolConstant b p) = Nodes.boolean b p
 expr_step (Expr-F.IntegerConstant n p) = Nodes.integer n p
@@ -154,7 +154,7 @@ expr_step (Expr-F.Or v p) = Nodes.disjunction (nodes_of v.items) p
 expr_step (Expr-F.Coalesce v p) = Nodes.coalescing (nodes_of v.items) p
 expr_step (Expr-F.Stmt b) = Nodes.block_value b
 
-abbrev pub statement_step : Stmt-F Node Statement Pair Flow Seen Rounds Guarded Block Case Choice → Statement
+abbrev pub statement_step : Stmt-F Node Statement Pair Seen Flow Rounds Guarded Block Case Choice → Statement
 statement_step (Stmt-F.Noop p) = Nodes.noop p
 statement_step (Stmt-F.If b p) = Nodes.if_statement (box_value b).0 (box_value b).1 (box_value b).2 p
 statement_step (Stmt-F.Switch n c p) =
@@ -176,18 +176,18 @@ statement_step (Stmt-F.Share v p) = Nodes.share (shared_of v.items) p
 
 -- an expression of the code as plain data
 abbrev pub view : Expr → Node
-view = fold-Expr Node Statement Pair Flow Seen Rounds Guarded Block Case Choice expr_step statement_step pair_step
-    flow_step call_step rounds_step guarded_step block_step case_step choice_step
+view = fold-Expr Node Statement Pair Seen Flow Rounds Guarded Block Case Choice expr_step statement_step pair_step
+    call_step flow_step rounds_step guarded_step block_step case_step choice_step
 
 -- a statement of the code as plain data
 abbrev pub statement_view : Stmt → Statement
-statement_view = fold-Stmt Node Statement Pair Flow Seen Rounds Guarded Block Case Choice expr_step statement_step
-    pair_step flow_step call_step rounds_step guarded_step block_step case_step choice_step
+statement_view = fold-Stmt Node Statement Pair Seen Flow Rounds Guarded Block Case Choice expr_step statement_step
+    pair_step call_step flow_step rounds_step guarded_step block_step case_step choice_step
 
 -- a block of the code as plain data
 abbrev pub block_view : StmtBlock → Block
-block_view = fold-StmtBlock Node Statement Pair Flow Seen Rounds Guarded Block Case Choice expr_step statement_step
-    pair_step flow_step call_step rounds_step guarded_step block_step case_step choice_step
+block_view = fold-StmtBlock Node Statement Pair Seen Flow Rounds Guarded Block Case Choice expr_step statement_step
+    pair_step call_step flow_step rounds_step guarded_step block_step case_step choice_step
 
 abbrev pub views : List Expr → Nodes
 views es = nodes_of (map view es)

@@ -9,10 +9,10 @@ use Rattle.rhai_lower.specs.Walks.{Left, Visit, Visited, all_left, arms_walk, bl
 use Rattle.rhai_lower.specs.Walks.{function, functions_walk, inside, node, nodes_walk, range, ranges_walk, statement}
 use Rattle.rhai_lower.specs.Walks.{statements_walk, values_walk, walk_of}
 use Rattle.rhai_lower.specs.declared.ast.AST.{AST}
-use Rattle.rhai_lower.specs.declared.ast.BinaryExpr.{out-BinaryExpr}
-use Rattle.rhai_lower.specs.declared.ast.FlowControl.{out-FlowControl}
-use Rattle.rhai_lower.specs.declared.ast.SwitchCase.{out-SwitchCase}
-use Rattle.rhai_lower.specs.declared.ast.SwitchCasesCollection.{SwitchCasesCollection, out-SwitchCasesCollection}
+use Rattle.rhai_lower.specs.declared.expr.BinaryExpr.{out-BinaryExpr}
+use Rattle.rhai_lower.specs.declared.stmt.FlowControl.{out-FlowControl}
+use Rattle.rhai_lower.specs.declared.stmt.SwitchCase.{out-SwitchCase}
+use Rattle.rhai_lower.specs.declared.stmt.SwitchCasesCollection.{SwitchCasesCollection, out-SwitchCasesCollection}
 use Rattle.rhai_lower.specs.declared.walk.Due.{Due}
 use Rattle.rhai_lower.specs.declared.walk.Node.{Node}
 use Rattle.rhai_lower.specs.declared.walk.Node.TheVariants as given

@@ -3,6 +3,7 @@
 #![tactic(auto)]
 
 pub mod ast;
+pub mod expr;
 pub mod interner;
 pub mod name_index;
 pub mod named_list;
@@ -14,15 +15,13 @@ mod places;
 pub mod position;
 pub mod scope;
 mod signature;
+pub mod stmt;
 pub mod stream;
 pub mod token;
 pub mod walk;
 
-pub use ast::{
-    AST, BinaryExpr, Expr, FlowControl, FnCallExpr, ForLoop, Ident, LoopControl, Namespace,
-    ScriptFuncDef, Stmt, StmtBlock, StmtBlockContainer, SwitchCase, SwitchCasesCollection,
-    VariableExpr,
-};
+pub use ast::{AST, ScriptFuncDef};
+pub use expr::{BinaryExpr, Expr, FnCallExpr, Ident, Namespace, VariableExpr};
 pub use interner::StringsInterner;
 pub use name_index::NameIndex;
 pub use named_list::{HasName, NamedList, find_latest, is_named};
@@ -32,6 +31,10 @@ pub use optimizer::{OptimizationLevel, Optimizer, Unoptimized};
 pub use parts::{FnCallParts, ScriptFuncParts};
 pub use position::{DescribedPosition, Position};
 pub use scope::Scope;
+pub use stmt::{
+    FlowControl, ForLoop, LoopControl, Stmt, StmtBlock, StmtBlockContainer, SwitchCase,
+    SwitchCasesCollection,
+};
 pub use stream::{Entry, TokenStream, UndeliverableEntry};
 pub use token::{LexError, Token, write_improper_symbol};
 pub use walk::{Node, Walk};

@@ -8,7 +8,7 @@ ghost use Rattle.rhai_lower.specs.Texts.{Text, same_text};
 ghost use Rattle.rhai_lower.specs.LatestNames.{latest_name};
 ghost use Rattle.rhai_lower.specs.NameIndexes.{Indexes, IsIndexed};
 
-use crate::ast::{Expr, Ident};
+use crate::expr::{Expr, Ident};
 use crate::name_index::NameIndex;
 use crate::position::Position;
 use std::alloc::{AllocError, Global};

@@ -3,8 +3,9 @@
 ghost use Rattle.std.specs.Prelude.{◌≡◌, IfOk, Ok};
 ghost use Rattle.rhai_lower.specs.Optimizer.{Makes, script_of, unoptimized};
 
-use crate::ast::{AST, ScriptFuncDef, StmtBlockContainer};
+use crate::ast::{AST, ScriptFuncDef};
 use crate::scope::Scope;
+use crate::stmt::StmtBlockContainer;
 use std::alloc::{AllocError, Global};
 use std::rc::Rc;
 

@@ -1,15 +1,10 @@
-//! The functions of a script in order, and the parts of nodes and functions. A node with a `drop` of its own cannot be
-//! taken apart by a pattern outside its module; `into_parts` (`ast`) gives its parts.
+//! The parts of calls and functions. A node with a `drop` of its own cannot be taken apart by a pattern outside its
+//! module; `into_parts` (`expr`, `ast`) gives its parts.
 
-ghost use Rattle.std.specs.Prelude.{◌≡◌};
-ghost use Rattle.std.specs.Slice.Iter.{iter_rest};
-ghost use Rattle.std.specs.Iterator.Adapters.{IterYieldsInOrder};
-
-use crate::ast::{AST, Expr, Namespace, ScriptFuncDef, StmtBlock};
+use crate::expr::{Expr, Namespace};
+use crate::stmt::StmtBlock;
 use crate::token::Token;
-use std::alloc::Global;
-use std::rc::{Rc, RcStr};
-use std::slice::Iter;
+use std::rc::RcStr;
 
 /// The parts of a call. They are those of `FnCallExpr`, but have no `drop` of their own, so that a pattern can take
 /// them.
@@ -34,14 +29,4 @@ pub struct ScriptFuncParts {
     pub params: Vec<RcStr>,
     pub body: StmtBlock,
     pub comments: Vec<RcStr>,
-}
-
-impl AST {
-    /// The functions and closures, in the order in which they end. Does not allocate.
-    pub fn iter_functions(&self) -> Iter<'_, Rc<ScriptFuncDef>>
-        ensures rest { iter_rest result ≡ self.now.functions.items }
-        ensures runs { IterYieldsInOrder (Rc ScriptFuncDef Global) }
-    {
-        self.functions.iter()
-    }
 }

@@ -4,8 +4,9 @@ ghost use Rattle.std.specs.Prelude.{◌≡◌};
 ghost use Rattle.rhai_lower.specs.Nodes.{first_start, position_of, start_of, statement_position};
 ghost use Rattle.rhai_lower.specs.View.{statement_view, view, views};
 
-use crate::ast::{Expr, Stmt};
+use crate::expr::Expr;
 use crate::position::Position;
+use crate::stmt::Stmt;
 
 impl Expr {
     /// The position of the node: for a call that of its name or operator, for a chain that of its dot or bracket, for a

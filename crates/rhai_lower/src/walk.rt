@@ -10,11 +10,10 @@ ghost use Rattle.rhai_lower.specs.Walks.{all_left, arms_walk, cases_walk, deeper
 ghost use Rattle.rhai_lower.specs.Walks.{inside_statement, nodes_walk, ranges_walk, statements_walk, values_walk};
 ghost use Rattle.rhai_lower.specs.Walks.{walk_of};
 
-use crate::ast::{
-    AST, BinaryExpr, Expr, FlowControl, Ident, ScriptFuncDef, Stmt, StmtBlock, SwitchCase,
-    SwitchCasesCollection,
-};
+use crate::ast::{AST, ScriptFuncDef};
+use crate::expr::{BinaryExpr, Expr, Ident};
 use crate::node::RangeCase;
+use crate::stmt::{FlowControl, Stmt, StmtBlock, SwitchCase, SwitchCasesCollection};
 use std::alloc::{AllocError, Global};
 use std::rc::Rc;
 

@@ -12,9 +12,9 @@ use Rattle.rhai_lower.specs.Texts.{Text}
 use Rattle.rhai_lower.specs.View.{called, named, written}
 use Rattle.rhai_lower.specs.WalkState.{Gives, visited}
 use Rattle.rhai_lower.specs.Walks.{Left, Visit, all_left}
-use Rattle.rhai_lower.specs.declared.ast.FnCallExpr.{FnCallExpr, out-FnCallExpr}
-use Rattle.rhai_lower.specs.declared.ast.Ident.{Ident}
-use Rattle.rhai_lower.specs.declared.ast.VariableExpr.{VariableExpr}
+use Rattle.rhai_lower.specs.declared.expr.FnCallExpr.{FnCallExpr, out-FnCallExpr}
+use Rattle.rhai_lower.specs.declared.expr.Ident.{Ident}
+use Rattle.rhai_lower.specs.declared.expr.VariableExpr.{VariableExpr}
 use Rattle.rhai_lower.specs.declared.walk.Node.{Node}
 use Rattle.rhai_grammar.specs.Imports.{is_among}
 use Rattle.rhai_grammar.specs.TreeNumbers.{has_path}

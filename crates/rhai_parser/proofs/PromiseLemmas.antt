@@ -10,7 +10,7 @@ use Rattle.rhai_lower.specs.Texts.{Text}
 use Rattle.rhai_lower.specs.View.{function_view, statement_views}
 use Rattle.rhai_lower.specs.declared.ast.AST.{AST}
 use Rattle.rhai_lower.specs.declared.ast.ScriptFuncDef.{ScriptFuncDef}
-use Rattle.rhai_lower.specs.declared.ast.Stmt.{Stmt}
+use Rattle.rhai_lower.specs.declared.stmt.Stmt.{Stmt}
 use Rattle.rhai_grammar.specs.Causes.{refusal_of, is_for_memory}
 use Rattle.rhai_grammar.specs.Cursors.{Cursor}
 use Rattle.rhai_grammar.specs.Contexts.{Context, Live}

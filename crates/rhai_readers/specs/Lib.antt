@@ -4,3 +4,4 @@ pub mod Engines
 pub mod Readers
 pub mod Heights
 pub mod PlainPrimaries
+pub mod Parts

@@ -7,10 +7,10 @@ use Rattle.std.specs.Rc.{rc_str_bytes}
 use Rattle.rhai_lower.specs.Texts.{Text}
 use Rattle.rhai_lower.specs.Nodes.{Node, Nodes, Properties, Statements}
 use Rattle.rhai_lower.specs.View.{property_views, statement_views, views}
-use Rattle.rhai_lower.specs.declared.ast.Expr.{Expr}
-use Rattle.rhai_lower.specs.declared.ast.Ident.{Ident}
+use Rattle.rhai_lower.specs.declared.expr.Expr.{Expr}
+use Rattle.rhai_lower.specs.declared.expr.Ident.{Ident}
 use Rattle.rhai_lower.specs.declared.ast.ScriptFuncDef.{ScriptFuncDef}
-use Rattle.rhai_lower.specs.declared.ast.Stmt.{Stmt}
+use Rattle.rhai_lower.specs.declared.stmt.Stmt.{Stmt}
 use Rattle.rhai_lower.specs.declared.position.Position.{Position}
 use Rattle.rhai_grammar.specs.Comments.{Comment}
 use Rattle.rhai_grammar.specs.Contexts.{Live}

@@ -9,7 +9,7 @@ use Rattle.rhai_lower.specs.Slots.{SlotValue}
 use Rattle.rhai_lower.specs.Streams.{Stream, stream_of}
 use Rattle.rhai_lower.specs.Texts.{Text}
 use Rattle.rhai_lower.specs.declared.ast.ScriptFuncDef.{ScriptFuncDef}
-use Rattle.rhai_lower.specs.declared.ast.Stmt.{Stmt}
+use Rattle.rhai_lower.specs.declared.stmt.Stmt.{Stmt}
 use Rattle.rhai_grammar.specs.Causes.{is_for_memory, no_memory}
 use Rattle.rhai_grammar.specs.Contexts.{Context, nothing_live}
 use Rattle.rhai_grammar.specs.Cursors.{Cursor, next_item, cursor_of, after_take}

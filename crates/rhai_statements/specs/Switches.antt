@@ -3,7 +3,7 @@ use Rattle.std.specs.Prelude.{◌≡◌, Bool}
 use Rattle.smallvec.specs.SmallVec.{SmallVec}
 use Rattle.rhai_lower.specs.Nodes.{Node, Nodes}
 use Rattle.rhai_lower.specs.View.{view, views}
-use Rattle.rhai_lower.specs.declared.ast.Expr.{Expr}
+use Rattle.rhai_lower.specs.declared.expr.Expr.{Expr}
 use Rattle.rhai_grammar.specs.Contexts.{in_block}
 use Rattle.rhai_grammar.specs.declared.filter.ExprFilter.TheVariants.{AllButPipe}
 use Rattle.rhai_base.specs.Frames.{FrameValue}

@@ -6,8 +6,8 @@ use Rattle.rhai_lower.specs.Texts.{Text, same_text}
 use Rattle.rhai_tokenizer.specs.declared.braces.Brace.TheVariants as brace
 use Rattle.rhai_tokenizer.specs.declared.class.First.{First}
 use Rattle.rhai_tokenizer.specs.declared.class.First.TheVariants as first
-use Rattle.rhai_tokenizer.specs.declared.class.Lead.{Lead}
-use Rattle.rhai_tokenizer.specs.declared.class.Lead.TheVariants as lead
+use Rattle.rhai_tokenizer.specs.declared.lead.Lead.{Lead}
+use Rattle.rhai_tokenizer.specs.declared.lead.Lead.TheVariants as lead
 use Rattle.rhai_tokenizer.specs.declared.lexer.Kind.{Kind}
 use Rattle.rhai_tokenizer.specs.declared.lexer.Kind.TheVariants as kind
 use Rattle.rhai_tokenizer.specs.declared.table.Fixed.{Fixed}

@@ -5,7 +5,7 @@ use Rattle.rhai_lower.specs.Nodes as node
 use Rattle.rhai_lower.specs.Nodes.{Node, position_of}
 use Rattle.rhai_lower.specs.declared.position.Position.{Position}
 use Rattle.rhai_lower.specs.View.{view, views}
-use Rattle.rhai_lower.specs.declared.ast.Expr.{Expr}
+use Rattle.rhai_lower.specs.declared.expr.Expr.{Expr}
 use Rattle.rhai_grammar.specs.Causes.{Refusal}
 use Rattle.rhai_grammar.proofs.ChainLemmas.{chain_of-nest}
 use Rattle.rhai_grammar.specs.Chains as chain

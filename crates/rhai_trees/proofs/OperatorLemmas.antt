@@ -5,7 +5,7 @@ use Rattle.rhai_lower.specs.Texts.{Text}
 use Rattle.rhai_lower.specs.Lexemes.{Lexeme}
 use Rattle.rhai_lower.specs.Nodes.{Node, one_node, start_of}
 use Rattle.rhai_lower.specs.View.{view, views}
-use Rattle.rhai_lower.specs.declared.ast.Expr.{Expr}
+use Rattle.rhai_lower.specs.declared.expr.Expr.{Expr}
 use Rattle.rhai_lower.specs.declared.position.Position.{Position}
 use Rattle.rhai_grammar.specs.Causes.{MismatchedType, Refusal, is_for_memory, no_memory, refusal, refusal_of}
 use Rattle.rhai_grammar.specs.declared.error.ParseError.{ParseError}

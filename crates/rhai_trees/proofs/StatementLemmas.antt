@@ -4,8 +4,8 @@ use Rattle.std.specs.Prelude.{Box}
 use Rattle.std.specs.declared.alloc.Global.{Global}
 use Rattle.rhai_lower.specs.Nodes.{Statement, Statements, break_loop, noop, return_statement, with_statement}
 use Rattle.rhai_lower.specs.View.{statement_view}
-use Rattle.rhai_lower.specs.declared.ast.Expr.{Expr}
-use Rattle.rhai_lower.specs.declared.ast.Stmt.TheVariants as stmt
+use Rattle.rhai_lower.specs.declared.expr.Expr.{Expr}
+use Rattle.rhai_lower.specs.declared.stmt.Stmt.TheVariants as stmt
 use Rattle.rhai_lower.specs.declared.position.Position.{Position}
 use Rattle.rhai_lower.proofs.Views.{statement_views_push, view_break, view_break_alone, view_return, view_return_alone, view_unit, view_variable}
 use Rattle.rhai_grammar.specs.Trees.{with_kept}

@@ -4,7 +4,7 @@ use Rattle.std.specs.declared.alloc.Global.{Global}
 use Rattle.rhai_lower.specs.Positions.{place}
 use Rattle.rhai_lower.specs.Nodes.{Optional, Statement, absent, noop, present}
 use Rattle.rhai_lower.specs.View.{view}
-use Rattle.rhai_lower.specs.declared.ast.Expr.{Expr}
+use Rattle.rhai_lower.specs.declared.expr.Expr.{Expr}
 
 -- an empty statement
 abbrev pub is_empty : Statement → Bool

@@ -4,7 +4,7 @@ ghost use Rattle.std.specs.Prelude.{◌≡◌, None, Some, true, false, IfErr, I
 ghost use Rattle.std.specs.Prelude.{option_map};
 ghost use Rattle.rhai_lower.specs.Nodes.{position_of};
 ghost use Rattle.rhai_lower.specs.View.{called, view, views};
-ghost use Rattle.rhai_lower.specs.declared.ast.FnCallExpr.{out-FnCallExpr};
+ghost use Rattle.rhai_lower.specs.declared.expr.FnCallExpr.{out-FnCallExpr};
 ghost use Rattle.rhai_grammar.specs.Causes.{MemoryIsNowhere, is_for_memory, refusal_of};
 ghost use Rattle.rhai_grammar.specs.Chains.{chained, index_refusal, last_fault, link_fault, link_node};
 ghost use Rattle.rhai_trees.specs.Chains.{chain_view, indexed_by, is_no_method, link_view, link_views, method_fault};

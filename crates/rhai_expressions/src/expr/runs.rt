@@ -14,9 +14,10 @@ ghost use Rattle.rhai_base.specs.Settings.{IsDeeper, RaisesInRun, settings_of};
 ghost use Rattle.rhai_reading.specs.Reading.{Goal, NextOperator};
 ghost use Rattle.rhai_reading.specs.Running.{Gives, Progress, next_item, exec, guarded};
 ghost use Rattle.rhai_readers.specs.Frames.{context_of, live_of};
+ghost use Rattle.rhai_readers.specs.Parts.{AtToken};
 ghost use Rattle.rhai_readers.specs.Readers.{Covers, GoesOn, ReadsAs, binary_op, state_of};
 ghost use Rattle.rhai_readers.specs.Heights.{Stays};
-ghost use Rattle.rhai_expressions.specs.Runs.{NextIs, in_run, right_side, side_view};
+ghost use Rattle.rhai_expressions.specs.Runs.{Follows, NextIs, in_run, right_side, side_view};
 
 use crate::expr::asks::next_operator;
 use crate::reader::Reader;
@@ -157,8 +158,7 @@ impl<R: LentReaders> Reader<'_, R> {
         frame: &Frame<'_>,
         settings: ParseSettings,
     ) -> ParseResult<Side>
-        requires readable { is_memory (next_item (state_of shared.old)).lexeme ≡ false }
-        requires more { is_end (next_item (state_of shared.old)).lexeme ≡ false }
+        requires at { AtToken (state_of shared.old) }
         requires lent { Covers (R.lent self.now.readers) (NextOperator frame.now.filter) shared.old }
         ensures goes_on { GoesOn shared.old shared.new }
         ensures shorter { OnOk result (left (state_of shared.new).cursor.tokens + 1
@@ -234,9 +234,7 @@ impl<R: LentReaders> Reader<'_, R> {
         lhs: Chain,
         next: Option<Operator>,
     ) -> ParseResult<Chain>
-        requires next { NextIs frame.now.filter next (state_of shared.old) }
-        requires readable { is_memory (next_item (state_of shared.old)).lexeme ≡ false }
-        requires more { IsSome next → is_end (next_item (state_of shared.old)).lexeme ≡ false }
+        requires next { Follows frame.now.filter next (state_of shared.old) }
         requires lent { Covers (R.lent self.now.readers)
             (binary_op (position_of (chain_view lhs)) parent (chain_view lhs) self.now.engine.now frame.now settings)
             shared.old }

@@ -1,5 +1,5 @@
 use Rattle.std.proofs.Common.{rules}
-use Rattle.rhai_lower.specs.declared.ast.Expr.{the_lemmas}
+use Rattle.rhai_lower.specs.declared.expr.Expr.{the_lemmas}
 use Rattle.rhai_lower.proofs.Views.{arm_views_push}
 use Rattle.rhai_cases.specs.Switches.{collected_view}
 use Rattle.rhai_cases.proofs.SwitchLemmas.{collected_by}

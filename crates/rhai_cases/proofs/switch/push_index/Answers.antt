@@ -1,6 +1,6 @@
 use Rattle.std.proofs.Common.{rules, sym}
 use Rattle.rhai_lower.specs.View.{view}
-use Rattle.rhai_lower.specs.declared.ast.Expr.{the_lemmas}
+use Rattle.rhai_lower.specs.declared.expr.Expr.{the_lemmas}
 use Rattle.rhai_cases.proofs.CaseIndexLemmas.{inside_cases}
 use Rattle.rhai_cases.proofs.SwitchLemmas.{set_value}
 use Rattle.rhai_cases.proofs.switch.push_index.Goals as goal

@@ -31,7 +31,7 @@ returns-in_ok-operand-in-Sign g t c = record {
       let sign : is_sign (beginning (next_item s).lexeme) ≡ true = grind arith in
       let no_end = sign_is_no_end (next_item s).lexeme sign in
       let signed : Signed context deeper s = record {
-        readable = c.requires.readable;
+        readable = c.requires.begins.readable;
         sign = sign;
         room = grind (arith, rule.parse_rare);
         deeper = grind (arith, rule.parse_rare);
@@ -58,7 +58,7 @@ returns-in_err-operand-in-Sign g t c = record {
       let sign : is_sign (beginning (next_item s).lexeme) ≡ true = grind arith in
       let no_end = sign_is_no_end (next_item s).lexeme sign in
       let signed : Signed context deeper s = record {
-        readable = c.requires.readable;
+        readable = c.requires.begins.readable;
         sign = sign;
         room = grind (arith, rule.parse_rare);
         deeper = grind (arith, rule.parse_rare);
@@ -79,8 +79,8 @@ returns-in_ok-primary-in_default g t c = record {
       let context = context_of engine c.args.frame.now c.args.settings in
       let unsigned : is_sign (beginning (next_item s).lexeme) ≡ false = grind arith in
       gives_so chain_view c.parse_all_ends.result (state_of c.parse_all_ends.new.shared)
-      (operand_begun context (live_of c.args.frame.now) (chain_view c.in_ok-primary-in_default.primary) s (state_of c.parse_compound.new.shared) c.requires.readable unsigned
-      (ap (nested (result_of (primary engine c.args.frame.now c.args.settings))) (sym c.requires.looked) ∙ c.in_ok-primary-in_default.ensures.reads))
+      (operand_begun context (live_of c.args.frame.now) (chain_view c.in_ok-primary-in_default.primary) s (state_of c.parse_compound.new.shared) c.requires.begins.readable unsigned
+      (ap (nested (result_of (primary engine c.args.frame.now c.args.settings))) (sym c.requires.begins.looked) ∙ c.in_ok-primary-in_default.ensures.reads))
       (c.parse_all_ends.ensures.reads s (grind arith));
 }
 
@@ -93,6 +93,6 @@ returns-in_err-primary-in_default g t c = record {
       let s = state_of c.args.shared.now in
       let context = context_of c.args.self.now.engine.now c.args.frame.now c.args.settings in
       let unsigned : is_sign (beginning (next_item s).lexeme) ≡ false = grind arith in
-      rw (p.1, p.2) (operand_fails context (live_of c.args.frame.now) s c.requires.readable unsigned _ (state_of c.parse_compound.new.shared)
-      (subst (λ u. R.Fails (nested (result_of (primary c.args.self.now.engine.now c.args.frame.now c.args.settings)) u) c.in_err-primary-in_default.field-0.0 (state_of c.parse_compound.new.shared)) c.requires.looked c.in_err-primary-in_default.ensures.reads));
+      rw (p.1, p.2) (operand_fails context (live_of c.args.frame.now) s c.requires.begins.readable unsigned _ (state_of c.parse_compound.new.shared)
+      (subst (λ u. R.Fails (nested (result_of (primary c.args.self.now.engine.now c.args.frame.now c.args.settings)) u) c.in_err-primary-in_default.field-0.0 (state_of c.parse_compound.new.shared)) c.requires.begins.looked c.in_err-primary-in_default.ensures.reads));
 }

@@ -2,7 +2,7 @@ use Rattle.std.proofs.Common.{arith, rules, ◌∙◌, ap, refl, sym}
 use Rattle.std.proofs.lemmas.Result.{err_from_is_err_and}
 use Rattle.std.specs.Prelude.{Bool}
 use Rattle.rhai_lower.specs.Nodes.{variable}
-use Rattle.rhai_lower.specs.declared.ast.VariableExpr.{VariableExpr}
+use Rattle.rhai_lower.specs.declared.expr.VariableExpr.{VariableExpr}
 use Rattle.rhai_lower.specs.View.{named}
 use Rattle.rhai_lower.proofs.Views.{view_variable}
 use Rattle.rhai_grammar.specs.Modules.{is_qualified, module_fault}

@@ -20,9 +20,9 @@ use Rattle.rhai_expressions.proofs.reader.Reader.parse_run.Goals.{After-after-ou
 pub loop-operator-init : goal.loop-operator-init
 loop-operator-init g c = record {
   awaits = nothing_waits _ _ _ c.new-pending.ensures.items c.at.ensures.settings (c.at.ensures.position ∙ c.position.ensures);
-  next = c.requires.next;
-  readable = c.requires.readable;
-  more = c.requires.more;
+  next = c.requires.next.is;
+  readable = c.requires.next.readable;
+  more = c.requires.next.more;
   goes_on = search rules;
   stays = search rules;
   limit = search rules;

@@ -6,10 +6,10 @@ use Rattle.rhai_reading.specs.Running.{next_item, entering, after_peek, result_o
 use Rattle.rhai_reading.specs.Running as R
 use Rattle.rhai_reading.proofs.Steps.{looked, nested_done}
 use Rattle.rhai_readers.proofs.Given.{gives_so}
-use Rattle.rhai_expressions.proofs.OperandLemmas.{operand_begun}
+use Rattle.rhai_expressions.proofs.OperandLemmas.{counted_once, operand_begun}
 use Rattle.rhai_expressions.proofs.PrimaryLemmas.{value_unsigned}
 use Rattle.rhai_readers.specs.Frames.{context_of, live_of}
-use Rattle.rhai_readers.specs.Readers.{operand, state_of}
+use Rattle.rhai_readers.specs.Readers.{nesting_of, operand, state_of}
 use Rattle.rhai_expressions.proofs.reader.Reader.parse_unary.Goals as goal
 
 pub returns-in-Ok : goal.returns-in-Ok
@@ -68,3 +68,7 @@ returns-in_ok-value-in-Value g c = record {
       ∙ ap (λ x. R.Done x t) (sym c.from_value-operand.ensures)))
       (c.parse_ends.ensures.reads s (grind arith));
 }
+
+pub parse_ends-requires-clause-counted : goal.parse_ends-requires-clause-counted
+parse_ends-requires-clause-counted g c =
+    counted_once (after_peek (state_of c.args.shared.now)) (state_of c.nested-enter.new.self) (state_of c.take_value.new.shared) (grind arith) (ap nesting_of c.take_value.ensures.steady.counts) c.nested-leave.ensures.leaves

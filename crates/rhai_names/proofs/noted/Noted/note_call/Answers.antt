@@ -1,7 +1,7 @@
 -- One call is noted.
 use Rattle.std.proofs.Common.{refl}
 use Rattle.std.specs.Rc.{rc_str_bytes}
-use Rattle.rhai_lower.specs.declared.ast.FnCallExpr.{out-FnCallExpr}
+use Rattle.rhai_lower.specs.declared.expr.FnCallExpr.{out-FnCallExpr}
 use Rattle.rhai_names.proofs.NotedLemmas.{call_noted, calls_it}
 use Rattle.rhai_names.proofs.noted.Noted.note_call.Goals as goal
 
