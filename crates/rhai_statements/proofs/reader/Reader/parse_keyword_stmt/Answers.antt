@@ -10,6 +10,15 @@ use Rattle.rhai_statements.proofs.CommentLemmas.{function_starts}
 use Rattle.rhai_statements.proofs.StmtReaders as rule
 use Rattle.rhai_statements.proofs.reader.Reader.parse_keyword_stmt.Goals as goal
 
+pub returns-in-Empty : goal.returns-in-Empty
+returns-in-Empty g c = record {
+  goes_on = grind arith;
+  place = search rules;
+  takes = grind arith;
+  stays = grind arith;
+  reads = grind (arith, rule.parse_stmt);
+}
+
 pub returns-in-Function : goal.returns-in-Function
 returns-in-Function g c = record {
   goes_on = grind arith;

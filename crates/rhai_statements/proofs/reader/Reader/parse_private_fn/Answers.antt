@@ -14,14 +14,14 @@ use Rattle.rhai_statements.proofs.StmtReaders as rule
 use Rattle.rhai_statements.proofs.reader.Reader.parse_private_fn.Goals as goal
 
 pub returns-in_err-match_token : goal.returns-in_err-match_token
-returns-in_err-match_token g c = record {
-  goes_on = grind arith;
-  shorter = tt;
-  stays = grind arith;
-  reads = λ h s within.
-      let p = err_from_is_err_and c.from_residual-in_err-match_token.result c.from_residual-in_err-match_token.ensures.1 in
-      rw (p.1, p.2) (grind (arith, rule.parse_private_fn));
-}
+returns-in_err-match_token g c =
+    let p = err_from_is_err_and c.from_residual-in_err-match_token.result c.from_residual-in_err-match_token.ensures.1 in
+    rw (p.1, p.2) (record {
+      goes_on = grind arith;
+      shorter = tt;
+      stays = grind arith;
+      reads = λ h s within. grind (arith, rule.parse_private_fn);
+    })
 
 pub returns : goal.returns
 returns g c = record {
