@@ -1,5 +1,5 @@
 -- What readers of statements promise.
-use Rattle.std.specs.Prelude.{◌≡◌, ◌+◌, ◌≤◌, ℕ, IfOk, Result, true}
+use Rattle.std.specs.Prelude.{◌≡◌, ◌+◌, ◌≤◌, IfOk, Result, true}
 use Rattle.rhai_lower.specs.View.{statement_view}
 use Rattle.rhai_lower.specs.declared.stmt.Stmt.{Stmt}
 use Rattle.rhai_grammar.specs.Cursors.{left}

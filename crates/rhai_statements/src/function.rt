@@ -3,24 +3,22 @@
 
 pub(crate) mod head;
 
-ghost use Rattle.std.specs.Prelude.{◌≡◌, ◌+◌, ◌≤◌, IfOk, OnOk, false, map, true};
+ghost use Rattle.std.specs.Prelude.{◌≡◌, ◌+◌, IfOk, false, true};
 ghost use Rattle.std.specs.Rc.{rc_str_bytes};
 ghost use Rattle.rhai_lower.specs.View.{block_view, statement_view};
 ghost use Rattle.rhai_grammar.specs.Contexts.{nothing_live};
-ghost use Rattle.rhai_grammar.specs.Cursors.{left};
-ghost use Rattle.rhai_grammar.specs.Delivered.{is_end, is_memory};
-ghost use Rattle.rhai_grammar.specs.Functions.{ended_function, names_function, parameters_live};
+ghost use Rattle.rhai_grammar.specs.Delivered.{is_end};
+ghost use Rattle.rhai_grammar.specs.Functions.{ended_function, names_function};
 ghost use Rattle.rhai_grammar.specs.Keys.{is_closure, key_of};
 ghost use Rattle.rhai_grammar.specs.declared.role.StatementStart.TheVariants.{Comment};
 ghost use Rattle.rhai_base.specs.Comments.{comments_of};
-ghost use Rattle.rhai_base.specs.Frames.{SameSurroundings};
 ghost use Rattle.rhai_readers.specs.Frames.{context_of, live_of};
 ghost use Rattle.rhai_readers.specs.Readers.{Covers, GoesOn, ReadsAs, ended_view, function, function_statement};
 ghost use Rattle.rhai_readers.specs.Readers.{head_view, names_of, state_of, statement, with_live};
 ghost use Rattle.rhai_readers.specs.Parts.{AtToken, ReadsSuch, TakesPart};
-ghost use Rattle.rhai_reading.specs.Reading.{Goal, fn_on, function_end, private_on, statement_at};
-ghost use Rattle.rhai_reading.specs.Running.{Caller, Gives, Progress, next_item, exec, guarded};
-ghost use Rattle.rhai_readers.specs.Heights.{Ends, Stays, function_height};
+ghost use Rattle.rhai_reading.specs.Reading.{fn_on, function_end, private_on, statement_at};
+ghost use Rattle.rhai_reading.specs.Running.{Caller, Gives, next_item, exec};
+ghost use Rattle.rhai_readers.specs.Heights.{Ends, function_height};
 
 use crate::function::head::{next_comments, next_parameter_list};
 use crate::reader::Reader;

@@ -3,13 +3,12 @@
 pub(crate) mod asks;
 pub(crate) mod definitions;
 
-ghost use Rattle.std.specs.Prelude.{◌≡◌, ◌+◌, ◌≤◌, IfOk, false, true};
+ghost use Rattle.std.specs.Prelude.{◌≡◌, ◌+◌, IfOk, false, true};
 ghost use Rattle.rhai_lower.specs.Nodes.{no_statements};
 ghost use Rattle.rhai_lower.specs.View.{statement_view, view};
 ghost use Rattle.rhai_readers.specs.Readers.{Covers, ReadsAs, definition, expr_statement, initializer};
 ghost use Rattle.rhai_readers.specs.Readers.{statement};
 ghost use Rattle.rhai_readers.specs.Readers.{exported, imported};
-ghost use Rattle.rhai_grammar.specs.Cursors.{left};
 ghost use Rattle.rhai_grammar.specs.Statements.{ends_itself, statement_start};
 ghost use Rattle.rhai_readers.specs.Frames.{context_of};
 ghost use Rattle.rhai_statements.specs.RareStatements.{is_jump, is_rare};

@@ -2,7 +2,7 @@
 
 pub(crate) mod arms;
 
-ghost use Rattle.std.specs.Prelude.{◌+◌, ◌≤◌, OnOk};
+ghost use Rattle.std.specs.Prelude.{◌+◌, ◌≤◌};
 ghost use Rattle.rhai_lower.specs.Nodes.{no_nodes};
 ghost use Rattle.rhai_lower.specs.View.{statement_view, view};
 ghost use Rattle.rhai_grammar.specs.Cursors.{left};

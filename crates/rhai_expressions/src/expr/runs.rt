@@ -1,22 +1,18 @@
 //! Runs of binary operators, read in one loop. What waits for the right side of an operator is a list, and no call, so
 //! that a long run nests no readers.
 
-ghost use Rattle.std.specs.Prelude.{◌≡◌, ◌+◌, ◌≤◌, IfErr, IfOk, IsSome, OnOk, false};
+ghost use Rattle.std.specs.Prelude.{◌≡◌, IfErr, IfOk};
 ghost use Rattle.rhai_trees.specs.Chains.{chain_view};
 ghost use Rattle.rhai_lower.specs.Lexemes.{lexeme};
 ghost use Rattle.rhai_lower.specs.Nodes.{position_of};
 ghost use Rattle.rhai_grammar.specs.Answers.{Answers};
 ghost use Rattle.rhai_grammar.specs.Causes.{MemoryIsNowhere};
 ghost use Rattle.rhai_grammar.specs.Cursors.{left};
-ghost use Rattle.rhai_grammar.specs.Delivered.{is_end, is_memory};
 ghost use Rattle.rhai_grammar.specs.Operators.{operator_result};
-ghost use Rattle.rhai_base.specs.Settings.{IsDeeper, RaisesInRun, settings_of};
-ghost use Rattle.rhai_reading.specs.Reading.{Goal, NextOperator};
-ghost use Rattle.rhai_reading.specs.Running.{Gives, Progress, next_item, exec, guarded};
-ghost use Rattle.rhai_readers.specs.Frames.{context_of, live_of};
+ghost use Rattle.rhai_base.specs.Settings.{settings_of};
+ghost use Rattle.rhai_reading.specs.Reading.{NextOperator};
 ghost use Rattle.rhai_readers.specs.Parts.{AtToken};
-ghost use Rattle.rhai_readers.specs.Readers.{Covers, GoesOn, ReadsAs, binary_op, state_of};
-ghost use Rattle.rhai_readers.specs.Heights.{Stays};
+ghost use Rattle.rhai_readers.specs.Readers.{Covers, ReadsAs, binary_op, state_of};
 ghost use Rattle.rhai_expressions.specs.Runs.{Follows, ReadsSide, in_run};
 
 use crate::expr::asks::next_operator;
