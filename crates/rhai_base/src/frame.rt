@@ -219,6 +219,8 @@ impl<'p> Frame<'p> {
 
     /// The number of the latest slot of the variable `name`, counted from 1 at the latest slot of all; none if no slot
     /// has the name. Does not allocate.
+    // It is apart, since what reads a name is faster so.
+    #[inline(never)]
     pub fn slot_number(&self, name: &str) -> Option<NonZeroUsize>
         ensures { option_map non_zero_usize_get result ≡ number name.now self.now.live.slots }
     {

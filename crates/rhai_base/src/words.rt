@@ -211,6 +211,7 @@ fn script_call(name: RcStr, namespace: Namespace, native_args: usize, call: Call
 }
 
 /// The call of a name, with its path, which stands at the name. The error is that there is no memory for it.
+#[inline(always)]
 #[tactic(auto, using(rhai_lower::proofs::Views::view_call, crate::proofs::NameLemmas::count_views))]
 pub fn make_call(
     alloc: Global,

@@ -259,6 +259,7 @@ fn push_range(ranges: &mut Vec<RangeCase>, case: &Expr, index: usize) -> Result<
 }
 
 // Adds a case of the arm with this index.
+#[inline(always)]
 fn push_case(
     alloc: Global,
     arms: &mut SwitchCasesCollection,
@@ -276,6 +277,26 @@ fn push_case(
 
 // Adds the cases of the arm with this index.
 fn push_cases(
+    alloc: Global,
+    arms: &mut SwitchCasesCollection,
+    keys: &mut IndexSet<CaseKey>,
+    index: usize,
+    cases: SmallVec<Expr, 1>,
+) -> Result<(), AllocError>
+    requires { Keyed keys.old.keys (collected_view arms.old).cases }
+    ensures pushed { OnOk result
+        (collected_view arms.new ≡ with_cases index (collected_view arms.old) (views cases.items)) }
+    ensures indexed { OnOk result (Keyed keys.new.keys (collected_view arms.new).cases) }
+{
+    match cases.into_inner() {
+        Ok([case]) => push_case(alloc, arms, keys, index, case),
+        Err(several) => push_several(alloc, arms, keys, index, several),
+    }
+}
+
+// The same of an arm with several cases. That is rare, so it is kept out of the loop over arms.
+#[inline(never)]
+fn push_several(
     alloc: Global,
     arms: &mut SwitchCasesCollection,
     keys: &mut IndexSet<CaseKey>,

@@ -39,6 +39,7 @@ pub enum NextArm {
 }
 
 /// What a token is where an arm of a `switch` may begin.
+#[inline(always)]
 pub fn arm_role(token: &Token) -> ArmRole
     ensures place { result ≡ arm_role (lexeme token.now) }
     ensures more { is_nothing result ≡ false → is_end (lexeme token.now) ≡ false }

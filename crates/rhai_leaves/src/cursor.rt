@@ -25,6 +25,7 @@ fn is_memory(token: &Token) -> bool
 
 /// The next token with its position, without taking it. Returns `AllocError` if the tokenizer ran out of memory at that
 /// token, which is not taken either; `?` turns the error into `OutOfMemory`. Does not allocate.
+#[inline(always)]
 #[tactic(auto, using(rhai_grammar::proofs::CursorLemmas::asked_item))]
 pub fn peek(input: &mut TokenStream) -> Result<&(Token, Position), AllocError>
     ensures shown { Shows (next_item (cursor_of input.old)) result }

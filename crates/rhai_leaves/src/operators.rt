@@ -121,8 +121,8 @@ fn ends_expression(token: &Token) -> bool
     )
 }
 
-// The operator that a token at `pos` is, if it is one. It is apart, since most expressions end where this is asked.
-#[inline(never)]
+// The operator that a token at `pos` is, if it is one.
+#[inline(always)]
 #[tactic(auto, using(crate::proofs::OperatorLemmas::followers))]
 fn operator_at(
     alloc: Global,

@@ -32,6 +32,7 @@ use std::alloc::{AllocError, Global};
 use std::rc::RcStr;
 
 // What a token begins where a statement is expected, if the engine lets scripts have loops.
+#[inline(always)]
 fn any_start(token: &Token) -> StatementStart
     ensures starts { result ≡ any_start (lexeme token.now) }
     ensures more { is_expression result ≡ false → is_end (lexeme token.now) ≡ false }

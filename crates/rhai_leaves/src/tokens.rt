@@ -160,6 +160,7 @@ pub(crate) fn qualifies(token: &Token) -> bool
 
 /// Whether the name before the next token, which stays, is no use of a variable: it is called, or part of a path. The
 /// error comes where the tokenizer ran out of memory at that token.
+#[inline(always)]
 pub fn excludes_use(input: &mut TokenStream) -> Result<bool, AllocError>
     ensures value { IfOk result (λ excluded. excluded ≡ excludes_use (next_item (cursor_of input.old)).lexeme) }
     ensures after { cursor_of input.new ≡ after_peek (cursor_of input.old) }

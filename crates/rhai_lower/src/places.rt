@@ -83,6 +83,7 @@ fn first_start(operands: &[Expr], pos: Position) -> Position
 impl Stmt {
     /// The position of the statement: for an assignment that of its operator, for an expression that of its node, for a
     /// block its start, otherwise that of its first token. Does not allocate.
+    #[inline(never)]
     pub fn position(&self) -> Position
         ensures { result ≡ statement_position (statement_view self.now) }
     {

@@ -205,6 +205,7 @@ impl StmtBlock {
     }
 
     // A block of one statement.
+    #[inline(always)]
     fn of_one(alloc: Global, statement: Stmt) -> Result<StmtBlock, AllocError>
         ensures { IfOk result (λ b. block_view b ≡ block_of_one (statement_view statement)) }
     {

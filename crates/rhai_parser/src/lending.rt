@@ -155,6 +155,7 @@ where
 }
 
 /// Reads an expression, as a chain that may go on. The level is raised at its first token.
+#[inline(always)]
 #[tactic(auto, using(rhai_reading::proofs::Steps::nested_so))]
 #[cycle(parser)]
 fn parse_chain(

@@ -9,11 +9,12 @@ use Rattle.rhai_reading.specs.Reading.{Goal, Val}
 use Rattle.rhai_grammar.specs.Rules.{production}
 use Rattle.rhai_grammar.specs.Prelude.{in_function}
 use Rattle.rhai_grammar.specs.Demands.{Nothing}
+use Rattle.rhai_productions.proofs.Constructs.{height_of_construct}
 use Rattle.rhai_productions.proofs.HeightsWithin.{Limits, deeper, in_functions, most, nests, room}
 use Rattle.rhai_productions.specs.NestLaws.{FormsNestWithin, NestsWithin}
 use Rattle.rhai_productions.proofs.HeightsOfOperands.{Ready, need, HoldsIn, by_either, parted, operand, right, primary}
 use Rattle.rhai_productions.proofs.HeightsOfOperands.{called, call_of, links, element, key, field, follower, binary}
-use Rattle.rhai_productions.proofs.HeightsOfStatements.{construct, export, statement, statements, inside, do_end, arms}
+use Rattle.rhai_productions.proofs.HeightsOfStatements.{export, statement, statements, inside, do_end, arms}
 use Rattle.rhai_productions.proofs.HeightsOfStatements.{action, arm_end, default_end, parameters, parameter, closure}
 
 abbrev Table : Goal → Type 0
@@ -75,7 +76,7 @@ table R.BlockStart p = λ n at. tt
 table (R.Inside c w) p = inside c w (has_single_blocks c) p
 table (R.Block c w at) p = (p, omega arith, λ fs. (tt, omega arith, λ b. tt))
 table (R.BlockEnd at fs) p = λ n q. tt
-table (R.Construct c w at kind) p = construct c w at kind p
+table (R.Construct c w at kind) p = height_of_construct c w at kind p
 table (R.Braced c w at) p = (tt, omega arith, λ q s. (p, omega (arith, deeper c s p), λ b. tt))
 table (R.Guard c w) p = (tt, (p, omega arith, λ x s. (tt, tt)))
 table (R.Iterated c w) p = (tt, (p, omega arith, λ x s. tt))

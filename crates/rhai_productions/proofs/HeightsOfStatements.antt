@@ -2,7 +2,6 @@
 -- Each lemma is of the rule of its name, and goes by cases of what the next token decides.
 use Rattle.std.proofs.Common.{ℕ, ◌+◌, Bool, true, false, Option, Some, None, List, [], ◌∷◌, arith}
 use Rattle.rhai_lower.specs.Nodes as node
-use Rattle.rhai_grammar.specs.declared.role.Construct.TheVariants as kind
 use Rattle.rhai_grammar.specs.declared.role.AfterStatement.TheVariants as ends
 use Rattle.rhai_grammar.specs.declared.role.StatementRole.TheVariants as stands
 use Rattle.rhai_grammar.specs.declared.list.AfterPart.TheVariants as after
@@ -14,7 +13,6 @@ use Rattle.rhai_grammar.specs.declared.role.StatementStart.TheVariants as start
 use Rattle.rhai_grammar.specs.Prelude.{Position, Context, Live, Text}
 use Rattle.rhai_grammar.specs.Prelude.{ends_itself, with_kept}
 use Rattle.rhai_grammar.specs.Prelude.{Comment, Collected, Use}
-use Rattle.rhai_grammar.specs.declared.role.Construct.{Construct as Kind}
 use Rattle.rhai_grammar.specs.declared.role.AfterStatement.{AfterStatement}
 use Rattle.rhai_grammar.specs.declared.role.Closing.{Closing}
 use Rattle.rhai_grammar.specs.declared.role.StatementRole.{StatementRole}
@@ -29,19 +27,8 @@ use Rattle.rhai_grammar.specs.Productions.{Production}
 use Rattle.rhai_grammar.specs.Rules as P
 use Rattle.rhai_grammar.specs.Rules.{production}
 use Rattle.rhai_grammar.specs.Prelude.{level_up, in_closure}
-use Rattle.rhai_productions.proofs.HeightsWithin.{Limits, below, deeper, in_closures, in_loops, room}
+use Rattle.rhai_productions.proofs.HeightsWithin.{Limits, below, deeper, in_closures, room}
 use Rattle.rhai_productions.proofs.HeightsOfOperands.{HoldsIn, by_either, parted}
-
-pub construct : (c : Context) (w : Live) (at : Position) (k : Kind) → Limits c
-    → HoldsIn (room c + 4) (P.construct c w at k)
-construct c w at kind.Block p = (p, omega arith, λ b. tt)
-construct c w at kind.If p = (p, omega arith, λ f. tt)
-construct c w at kind.Switch p = (p, omega arith, λ x n q. (p, omega arith, λ all. tt))
-construct c w at kind.While p = (p, omega arith, λ x. (p, omega (arith, in_loops c), λ b. tt))
-construct c w at kind.Loop p = (p, omega (arith, in_loops c), λ b. tt)
-construct c w at kind.Do p = (p, omega (arith, in_loops c), λ b. (tt, omega arith, λ n. (p, omega arith, λ x. tt)))
-construct c w at kind.For p = (tt, omega arith, λ ns. (p, omega arith, λ x. (p, omega (arith, in_loops c), λ b. tt)))
-construct c w at kind.Try p = (p, omega arith, λ b. (tt, omega arith, λ n. (p, omega arith, λ x. tt)))
 
 pub export : (c : Context) (w : Live) (at : Position) (v : Option Bool) → Limits c
     → HoldsIn (room c + 0) (P.export_by c w at v)

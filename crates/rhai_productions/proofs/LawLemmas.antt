@@ -1,8 +1,8 @@
 -- The laws of productions, from what is shown of all goals at once.
-use Rattle.std.proofs.Common.{◌≡◌, suc, false, refl, ap, subst, arith, Ok, Err}
+use Rattle.std.proofs.Common.{◌≡◌, false, refl, ap, subst, Ok, Err}
 use Rattle.rhai_grammar.specs.Causes.{cause_of, is_memory_cause, is_memory_kind}
 use Rattle.rhai_grammar.specs.Delivered.{Point}
-use Rattle.rhai_grammar.specs.Demands.{Demands, Met, Missed}
+use Rattle.rhai_grammar.specs.Demands.{Met, Missed}
 use Rattle.rhai_grammar.specs.Prelude.{StandsAtLast}
 use Rattle.rhai_grammar.specs.declared.error.ParseErrorType.{ParseErrorType}
 use Rattle.rhai_grammar.specs.declared.error.ParseErrorType.TheVariants as error

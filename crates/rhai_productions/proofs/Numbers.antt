@@ -20,9 +20,10 @@ use Rattle.rhai_productions.specs.Numbered as Z
 use Rattle.rhai_productions.specs.Numbered.{ClosureParts, names, UnlessCalled, Right, TreesAreWellNumbered}
 use Rattle.rhai_grammar.specs.Rules as P
 use Rattle.rhai_productions.specs.Kept.{Keeps}
+use Rattle.rhai_productions.proofs.Constructs.{numbers_of_construct}
 use Rattle.rhai_productions.proofs.NumberTrees.{closure_body, one_node, one_text, definition, with_path, function}
 use Rattle.rhai_productions.proofs.Keeping as K
-use Rattle.rhai_productions.proofs.NumbersOfOperands.{by_either, is_true_of, construct, operand, right, primary, called}
+use Rattle.rhai_productions.proofs.NumbersOfOperands.{by_either, is_true_of, operand, right, primary, called}
 use Rattle.rhai_productions.proofs.NumbersOfOperands.{call_path, call_of, links, parted, element, key, field, follower}
 use Rattle.rhai_productions.proofs.NumbersOfOperands.{binary}
 use Rattle.rhai_productions.proofs.NumbersOfStatements.{export, statement, statements, inside, do_end_kept, arms}
@@ -87,7 +88,7 @@ table R.BlockStart n = λ is at m. tt
 table (R.Inside c w) n = inside c w (has_single_blocks c) n
 table (R.Block c w at) n = λ fs m h b o k. k (names w) h
 table (R.BlockEnd at fs) n = λ is p m ns h. h
-table (R.Construct c w at kind) n = construct c w at kind n
+table (R.Construct c w at kind) n = numbers_of_construct c w at kind n
 table (R.Braced c w at) n = λ p m u room b o h. h
 table (R.Guard c w) n = (λ e. tt, λ e x m h fault. (λ a. tt, λ a. h))
 table (R.Iterated c w) n = (λ e. tt, λ e x m h fault. h)

@@ -1,10 +1,9 @@
 -- Productions of operands, calls and lists keep the numbers in their trees right.
 -- Each lemma is of the rule of its name, and goes by cases of what the next token decides.
-use Rattle.std.proofs.Common.{◌≡◌, ℕ, Bool, true, false, ◌&&◌, ◌||◌, Option, Some, None, refl, subst, if◌then◌else◌}
+use Rattle.std.proofs.Common.{◌≡◌, ℕ, Bool, true, false, ◌&&◌, ◌||◌, Option, Some, None, refl, if◌then◌else◌}
 use Rattle.rhai_grammar.specs.TreeNumbers.{WellNumberedProperties, IsWellNumberedFunction}
 use Rattle.rhai_grammar.specs.Operators.{joining}
 use Rattle.rhai_grammar.specs.Signs.{effect, plain_sign}
-use Rattle.rhai_grammar.specs.declared.role.Construct.TheVariants as kind
 use Rattle.rhai_grammar.specs.declared.list.AfterPart.TheVariants as after
 use Rattle.rhai_grammar.specs.declared.list.CommaList.TheVariants as lists
 use Rattle.rhai_grammar.specs.declared.role.Beginning.TheVariants as begin
@@ -16,8 +15,7 @@ use Rattle.rhai_grammar.specs.Prelude.{Lexeme, Position, Context, Live, Text, te
 use Rattle.rhai_grammar.specs.Prelude.{no_nodes, may_be_value, KeyRole, FieldsEnd, AKey, NoKey, LinkSpot, calls}
 use Rattle.rhai_grammar.specs.Prelude.{may_be_called, is_this, MemberRole, AMember, NoMember, excludes_use, qualifies}
 use Rattle.rhai_grammar.specs.Prelude.{Follower, Operator, Unknown, Other, name_tree, is_variable, bracket_link}
-use Rattle.rhai_grammar.specs.Prelude.{member_link, may_be_closure, AllWellNumbered, WellNumbered, WellNumberedBlock}
-use Rattle.rhai_grammar.specs.declared.role.Construct.{Construct as Kind}
+use Rattle.rhai_grammar.specs.Prelude.{member_link, may_be_closure, AllWellNumbered, WellNumbered}
 use Rattle.rhai_grammar.specs.declared.list.AfterPart.{AfterPart}
 use Rattle.rhai_grammar.specs.declared.list.CommaList.{CommaList}
 use Rattle.rhai_grammar.specs.declared.role.Beginning.{Beginning}
@@ -28,14 +26,12 @@ use Rattle.rhai_grammar.specs.declared.role.OperandStart.{OperandStart}
 use Rattle.rhai_grammar.proofs.NumberSteps as N
 use Rattle.rhai_grammar.proofs.NumberSteps.{AllLinks, IsCollected}
 use Rattle.rhai_grammar.specs.Strengths.{continues}
-use Rattle.rhai_reading.specs.Reading as R
-use Rattle.rhai_reading.specs.Reading.{Goal, Val}
 use Rattle.rhai_grammar.specs.Productions.{Production}
 use Rattle.rhai_grammar.specs.Rules as P
 use Rattle.rhai_grammar.specs.Rules.{production}
 use Rattle.rhai_productions.specs.Kept.{Keeps}
-use Rattle.rhai_productions.specs.Numbered.{names, Leaves, UnlessCalled, Right}
-use Rattle.rhai_productions.proofs.NumberTrees.{one_node, one_property, one_text, one_link, handled, catches}
+use Rattle.rhai_productions.specs.Numbered.{names, UnlessCalled, Right}
+use Rattle.rhai_productions.proofs.NumberTrees.{one_node, one_property, one_text, one_link}
 
 abbrev pub KeepsIn : {A : Type 0} → (A → Type 0) → Production A → Lexeme → Type 0
 KeepsIn R p n = Keeps Right IsWellNumberedFunction (λ x next. R x) p n
@@ -77,19 +73,6 @@ pub name_kept : (w : Live) (b : Bool) (t : Text) (at : Position) (n : Lexeme) �
     → UnlessCalled (names w) (name_tree w.slots b t at) n
 name_kept w true t at n e = not_both true (excludes_use n) refl e
 name_kept w false t at n e = λ c. N.named t w.slots
-
-pub construct : (c : Context) (w : Live) (at : Position) (k : Kind) (n : Lexeme) → KeepsIn (Leaves w w)
-    (P.construct c w at k) n
-construct c w at kind.Block n = λ b m h. (h, refl)
-construct c w at kind.If n = λ f m h. h
-construct c w at kind.Switch n = λ x m h e p o all q k. ((h, (k (tt, tt)).0, (k (tt, tt)).1), refl)
-construct c w at kind.While n = λ x m h b o k. ((h, k), refl)
-construct c w at kind.Loop n = λ b m h. ((tt, h), refl)
-construct c w at kind.Do n = λ b m h negated o j x q k. ((k, h), refl)
-construct c w at kind.For n = λ ns m i x o h b q k.
-    ((h, subst (λ ms. WellNumberedBlock ms b) (N.looped ns.0 ns.1 w) k), refl)
-construct c w at kind.Try n = λ b m h name o i handler q k.
-    ((h, catches name, subst (λ ms. WellNumberedBlock ms handler) (handled name w) k), refl)
 
 pub operand : (c : Context) (w : Live) (v : Beginning) (n : Lexeme) → KeepsIn (WellNumbered (names w))
     (P.operand_by c w v) n

@@ -19,6 +19,7 @@ use Rattle.rhai_reading.specs.Reading.{Goal, Val}
 use Rattle.rhai_grammar.specs.Productions.{give}
 use Rattle.rhai_grammar.specs.Rules as P
 use Rattle.rhai_grammar.specs.Rules.{production}
+use Rattle.rhai_productions.proofs.Constructs.{order_of_construct}
 use Rattle.rhai_productions.proofs.Ordering.{Spared, missing_spared, unexpected_spared}
 use Rattle.rhai_productions.proofs.OrderCauses.{fault, no_body, no_function_name, no_variable}
 use Rattle.rhai_productions.proofs.OrdersOfOperands.{Begun, OrdersAs, Right, by_either, either_of, parted, operand}
@@ -32,7 +33,7 @@ use Rattle.rhai_reading.specs.Reading.{ClosureBody}
 use Rattle.rhai_grammar.specs.Forms as Form
 use Rattle.rhai_productions.specs.LibraryLaws.{FormsKeepOrder, LibrariesStayOrderly}
 use Rattle.rhai_productions.proofs.Ordering.{ended, ordered, stops}
-use Rattle.rhai_productions.proofs.OrdersOfStatements.{construct, export, statement, statements, inside, do_end, arms}
+use Rattle.rhai_productions.proofs.OrdersOfStatements.{export, statement, statements, inside, do_end, arms}
 use Rattle.rhai_productions.proofs.OrdersOfStatements.{action, arm_end, default_end, parameters, parameter, begins}
 use Rattle.rhai_productions.proofs.OrdersOfStatements.{inner, joins, closure}
 
@@ -127,7 +128,7 @@ module _ (limit : ℕ) where
   table (R.Inside c w) b l i o = inside limit c w (has_single_blocks c) b l i o
   table (R.Block c w at) b l i o = (b, o, i, λ x m r o. (b, o, tt, λ x m r o. (tt, o)))
   table (R.BlockEnd at fs) b l i o = (missing_spared _, λ n p. (tt, o))
-  table (R.Construct c w at kind) b l i o = construct limit c w at kind b l i o
+  table (R.Construct c w at kind) b l i o = order_of_construct limit c w at kind b l i o
   table (R.Braced c w at) b l i o = (b, o, tt, λ x m r o. (λ e. refl, λ s. (b, o, i, λ x m r o. (tt, o))))
   table (R.Guard c w) b l i o = (
     λ n. refl,

@@ -4,7 +4,6 @@ use Rattle.std.proofs.Common.{◌≡◌, ℕ, ◌+◌, Bool, true, false, Option
 use Rattle.std.proofs.Common.{length, nat_lt}
 use Rattle.rhai_lower.specs.Nodes as node
 use Rattle.rhai_lower.specs.Positions.{nowhere}
-use Rattle.rhai_grammar.specs.declared.role.Construct.TheVariants as kind
 use Rattle.rhai_grammar.specs.declared.role.AfterStatement.TheVariants as ends
 use Rattle.rhai_grammar.specs.declared.role.StatementRole.TheVariants as stands
 use Rattle.rhai_grammar.specs.declared.list.AfterPart.TheVariants as after
@@ -18,7 +17,6 @@ use Rattle.rhai_grammar.specs.Prelude.{ends_itself, with_kept}
 use Rattle.rhai_grammar.specs.Prelude.{Comment, Collected, Use, Library, Ended}
 use Rattle.rhai_grammar.specs.Prelude.{duplicate_of, is_new, may_begin, is_closure}
 use Rattle.rhai_grammar.specs.Prelude.{with_ended, closure_count, closure_name, closure_node, ended_closure, made_block}
-use Rattle.rhai_grammar.specs.declared.role.Construct.{Construct as Kind}
 use Rattle.rhai_grammar.specs.declared.role.AfterStatement.{AfterStatement}
 use Rattle.rhai_grammar.specs.declared.role.Closing.{Closing}
 use Rattle.rhai_grammar.specs.declared.role.StatementRole.{StatementRole}
@@ -39,17 +37,6 @@ use Rattle.rhai_productions.proofs.OrderCauses.{no_parameter, no_parameters, no_
 use Rattle.rhai_productions.proofs.OrdersOfOperands.{Begun, Fits, OrdersIn, Right, either_of, parted}
 
 module _ (limit : ℕ) where
-  pub construct : (c : Context) (w : Live) (at : Position) (k : Kind) (b : ℕ) (l : Library) → Fits limit b c
-      → Kept limit b l → OrdersIn limit b (P.construct c w at k) l
-  construct c w at kind.Block b l i o = (b, o, i, λ x m r o. (tt, o))
-  construct c w at kind.If b l i o = (b, o, i, λ x m r o. (tt, o))
-  construct c w at kind.Switch b l i o = (b, o, i, λ x m r o. (missing_spared _, λ n p. (b, o, i, λ x m r o. (tt, o))))
-  construct c w at kind.While b l i o = (b, o, i, λ x m r o. (b, o, i, λ x m r o. (tt, o)))
-  construct c w at kind.Loop b l i o = (b, o, i, λ x m r o. (tt, o))
-  construct c w at kind.Do b l i o = (b, o, i, λ x m r o. (b, o, tt, λ x m r o. (b, o, i, λ x m r o. (tt, o))))
-  construct c w at kind.For b l i o = (b, o, tt, λ x m r o. (b, o, i, λ x m r o. (b, o, i, λ x m r o. (tt, o))))
-  construct c w at kind.Try b l i o = (b, o, i, λ x m r o. (b, o, tt, λ x m r o. (b, o, i, λ x m r o. (tt, o))))
-
   pub export : (c : Context) (w : Live) (at : Position) (v : Option Bool) (b : ℕ) (l : Library) → Fits limit b c
       → Kept limit b l → OrdersIn limit b (P.export_by c w at v) l
   export c w at (Some constant) b l i o = (λ e. refl, λ s n pos. (b, o, i, λ x m r o. (tt, o)))

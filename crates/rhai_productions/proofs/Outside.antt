@@ -8,7 +8,6 @@ use Rattle.std.proofs.lemmas.Nat.{and_assoc, and_or_apart}
 use Rattle.std.specs.Int.Bits.{and_zero_r}
 use Rattle.std.specs.Int.RustNames.{bit_and}
 use Rattle.rhai_lower.specs.Nodes as node
-use Rattle.rhai_grammar.specs.declared.role.Construct.TheVariants as kind
 use Rattle.rhai_grammar.specs.declared.role.AfterStatement.TheVariants as ends
 use Rattle.rhai_grammar.specs.declared.role.StatementRole.TheVariants as stands
 use Rattle.rhai_grammar.specs.declared.list.AfterPart.TheVariants as after
@@ -21,13 +20,12 @@ use Rattle.rhai_grammar.specs.declared.role.ItemRole.TheVariants as place
 use Rattle.rhai_grammar.specs.declared.role.Linking.TheVariants as link
 use Rattle.rhai_grammar.specs.declared.role.OperandStart.TheVariants as first
 use Rattle.rhai_grammar.specs.declared.role.StatementStart.TheVariants as start
-use Rattle.rhai_grammar.specs.Prelude.{Lexeme, Position, Context, Live, Text, text_of, Node, loop_body, is_name}
+use Rattle.rhai_grammar.specs.Prelude.{Lexeme, Position, Context, Live, Text, text_of, Node, is_name}
 use Rattle.rhai_grammar.specs.Prelude.{ends_itself, with_kept, Nodes, Properties, below_global, has_single_blocks}
 use Rattle.rhai_grammar.specs.Prelude.{may_be_value, KeyRole, FieldsEnd, AKey, NoKey, LinkSpot, is_this, MemberRole}
 use Rattle.rhai_grammar.specs.Prelude.{AMember, NoMember, excludes_use, Follower, Operator, Unknown, Other}
 use Rattle.rhai_grammar.specs.Prelude.{may_be_closure, Comment, Collected, in_function, Use, is_captured, Library}
 use Rattle.rhai_grammar.specs.Prelude.{is_function, noted, number, with_ended}
-use Rattle.rhai_grammar.specs.declared.role.Construct.{Construct as Kind}
 use Rattle.rhai_grammar.specs.declared.role.AfterStatement.{AfterStatement}
 use Rattle.rhai_grammar.specs.declared.role.Closing.{Closing}
 use Rattle.rhai_grammar.specs.declared.role.StatementRole.{StatementRole}
@@ -52,6 +50,7 @@ use Rattle.rhai_grammar.specs.Forms.{given, take, this, if_so, if_not, choose, h
 use Rattle.rhai_grammar.specs.Forms.{captures, part, literal, apart, in_text, form}
 use Rattle.rhai_grammar.specs.Events as F
 use Rattle.rhai_grammar.specs.Events.{Event, Used, HasEnded, ends_only}
+use Rattle.rhai_productions.proofs.Constructs.{quiet_construct}
 use Rattle.rhai_productions.specs.Quiet.{Quiet, Outside, Off, NothingIsCaptured}
 use Rattle.rhai_productions.proofs.Passing.{library_after, captured_after, captured_on, captured_ends, captured_is}
 use Rattle.rhai_productions.proofs.Passing.{leaves_its}
@@ -101,9 +100,6 @@ module _ (rule : (g : Goal) → Production (Val g)) (Aside : Goal → Type 0) (q
 below : (c : Context) → Off c → Off (below_global c)
 below c i = ap (λ n. n == 4) (and_assoc 4 c.settings.flags 254) ∙ i
 
-in_loop : (c : Context) → Off c → Off (loop_body c)
-in_loop c i = ap (λ n. n == 4) (and_or_apart 4 c.settings.flags 8 refl) ∙ i
-
 no_function : (c : Context) (w : Live) → Off (in_function c w)
 no_function c w = ap (λ n. n == 4) (and_or_apart 4 2 (bit_and c.settings.flags 32) (
     and_assoc 4 c.settings.flags 32 ∙ and_zero_r c.settings.flags))
@@ -119,16 +115,6 @@ no_capture c w t fs o = ap (λ b. b && not (is_some (number t w.slots) || is_fun
 no_use : (a b : Bool) → b ≡ false → (a && b) ≡ false
 no_use true b e = e
 no_use false b e = refl
-
-construct : (c : Context) (w : Live) (at : Position) (k : Kind) → Off c → Quiet Outside (P.construct c w at k)
-construct c w at kind.Block o = (o, λ b. tt)
-construct c w at kind.If o = (o, λ f. tt)
-construct c w at kind.Switch o = (o, λ x l p. (o, λ all. tt))
-construct c w at kind.While o = (o, λ x. (in_loop c o, λ b. tt))
-construct c w at kind.Loop o = (in_loop c o, λ b. tt)
-construct c w at kind.Do o = (in_loop c o, λ b. (tt, λ n. (o, λ x. tt)))
-construct c w at kind.For o = (tt, λ ns. (o, λ x. (in_loop c o, λ b. tt)))
-construct c w at kind.Try o = (o, λ b. (tt, λ n. (o, λ h. tt)))
 
 operand : (c : Context) (w : Live) (v : Beginning) → Off c → Quiet Outside (P.operand_by c w v)
 operand c w begin.Sign o = λ l at. (o, λ x. tt)
@@ -342,7 +328,7 @@ quiet R.BlockStart o = λ l at. tt
 quiet (R.Inside c w) o = inside c w (has_single_blocks c) o
 quiet (R.Block c w at) o = (o, λ fs. (tt, λ b. tt))
 quiet (R.BlockEnd at fs) o = λ l p. tt
-quiet (R.Construct c w at kind) o = construct c w at kind o
+quiet (R.Construct c w at kind) o = quiet_construct c w at kind o
 quiet (R.Braced c w at) o = (tt, λ opening. (o, λ b. tt))
 quiet (R.Guard c w) o = (tt, (o, λ x. (tt, tt)))
 quiet (R.Iterated c w) o = (tt, (o, λ x. tt))

@@ -17,11 +17,12 @@ use Rattle.rhai_productions.specs.PositionLaws.{StandsAmong, StandsAtToken, Refu
 use Rattle.rhai_grammar.proofs.PositionSteps.{AllTaken, Ends}
 use Rattle.rhai_grammar.proofs.PositionTrees as T
 use Rattle.rhai_grammar.proofs.PositionTrees.{AllLinks, AllPlaced, Placed}
+use Rattle.rhai_productions.proofs.Constructs.{position_of_construct}
 use Rattle.rhai_productions.proofs.Standing.{refused}
 use Rattle.rhai_productions.proofs.PositionsOfOperands.{AllowsAs, Wants, Right, by_either, either_of, parted, fault_at}
 use Rattle.rhai_productions.proofs.PositionsOfOperands.{one_more, longer, operand, right, primary, called, call_of, links}
 use Rattle.rhai_productions.proofs.PositionsOfOperands.{element, key, field, follower, binary}
-use Rattle.rhai_productions.proofs.PositionsOfStatements.{construct, export, statement, statements, inside, do_end, arms}
+use Rattle.rhai_productions.proofs.PositionsOfStatements.{export, statement, statements, inside, do_end, arms}
 use Rattle.rhai_productions.proofs.PositionsOfStatements.{action, arm_end, default_end, parameters, parameter, closure}
 
 module _ (G : Position → Type 0) where
@@ -81,7 +82,7 @@ module _ (G : Position → Type 0) where
   table (R.Inside c w) i = inside G c w (has_single_blocks c)
   table (R.Block c w at) i = (tt, λ fs h. (i, λ b k. k))
   table (R.BlockEnd at fs) i = λ n p a. i
-  table (R.Construct c w at kind) i = construct G c w at kind i
+  table (R.Construct c w at kind) i = position_of_construct G c w at kind i
   table (R.Braced c w at) i = (tt, λ p h. (λ e. i, (h, λ b k. k)))
   table (R.Guard c w) i = (tt, (tt, λ x h. (fault_at G (guard_fault x) (T.of_guard G x h), (tt, tt))))
   table (R.Iterated c w) i = (tt, (tt, λ x h. (fault_at G (iterated_fault x) (T.of_iterated G x h), tt)))

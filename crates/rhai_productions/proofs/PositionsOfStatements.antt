@@ -2,7 +2,6 @@
 -- Each lemma is of the rule of its name, and goes by cases of what the next token decides.
 use Rattle.std.proofs.Common.{Bool, true, false, Option, Some, None, List, [], ◌∷◌}
 use Rattle.rhai_lower.specs.Nodes as node
-use Rattle.rhai_grammar.specs.declared.role.Construct.TheVariants as kind
 use Rattle.rhai_grammar.specs.declared.role.AfterStatement.TheVariants as ends
 use Rattle.rhai_grammar.specs.declared.role.StatementRole.TheVariants as stands
 use Rattle.rhai_grammar.specs.declared.list.AfterPart.TheVariants as after
@@ -14,7 +13,6 @@ use Rattle.rhai_grammar.specs.declared.role.StatementStart.TheVariants as start
 use Rattle.rhai_grammar.specs.Prelude.{Position, Context, Live, Text}
 use Rattle.rhai_grammar.specs.Prelude.{ends_itself, with_kept}
 use Rattle.rhai_grammar.specs.Prelude.{Comment, Collected, Use}
-use Rattle.rhai_grammar.specs.declared.role.Construct.{Construct as Kind}
 use Rattle.rhai_grammar.specs.declared.role.AfterStatement.{AfterStatement}
 use Rattle.rhai_grammar.specs.declared.role.Closing.{Closing}
 use Rattle.rhai_grammar.specs.declared.role.StatementRole.{StatementRole}
@@ -35,17 +33,6 @@ use Rattle.rhai_grammar.proofs.PositionTrees.{AllLinks, AllPlaced, Placed}
 use Rattle.rhai_productions.proofs.PositionsOfOperands.{AllowsAs, AllowsIn, BlockAt, either_of, parted}
 
 module _ (G : Position → Type 0) where
-  pub construct : (c : Context) (w : Live) (at : Position) (k : Kind) → G at
-      → AllowsAs G (λ f. BlockAt G f) (P.construct c w at k)
-  construct c w at kind.Block g = (g, λ b h. h)
-  construct c w at kind.If g = (g, λ f h. h)
-  construct c w at kind.Switch g = (tt, λ x h n p a. (tt, λ all k. g))
-  construct c w at kind.While g = (tt, λ x h. (g, λ b k. g))
-  construct c w at kind.Loop g = (g, λ b h. g)
-  construct c w at kind.Do g = (g, λ b h. (tt, λ n k. (tt, λ x j. g)))
-  construct c w at kind.For g = (tt, λ ns h. (tt, λ x k. (g, λ b j. g)))
-  construct c w at kind.Try g = (g, λ b h. (tt, λ n k. (g, λ x j. g)))
-
   pub export : (c : Context) (w : Live) (at : Position) (v : Option Bool) → G at
       → AllowsAs G (λ f. BlockAt G f.0) (P.export_by c w at v)
   export c w at (Some constant) g = (λ e. g, λ n pos a. (a, λ f h. h))

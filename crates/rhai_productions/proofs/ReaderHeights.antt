@@ -22,7 +22,7 @@ use Rattle.rhai_grammar.specs.Forms.{counted}
 use Rattle.rhai_productions.specs.NestLaws.{PeaksWithin, ReadersNestWithin, ReadsWithin}
 use Rattle.rhai_grammar.specs.Rules.{production}
 use Rattle.rhai_grammar.specs.Productions.{Production, view}
-use Rattle.rhai_productions.specs.Readers.{run, run_from}
+use Rattle.rhai_productions.specs.Readers.{run_from}
 use Rattle.rhai_grammar.specs.Productions as S
 use Rattle.rhai_productions.proofs.Lawful.{runs_lawful}
 use Rattle.rhai_productions.proofs.HeightsWithin.{Holds, Limits, most, room}

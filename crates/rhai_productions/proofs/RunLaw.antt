@@ -9,7 +9,6 @@ use Rattle.rhai_grammar.specs.Strengths.{is_operator, strength}
 use Rattle.rhai_grammar.specs.Verdicts.{operator_known, known_follower, run_ends, ended_follower, raise_due}
 use Rattle.rhai_grammar.specs.declared.filter.ExprFilter.{ExprFilter}
 use Rattle.rhai_grammar.specs.Strengths.{continues}
-use Rattle.rhai_reading.specs.Reading as R
 use Rattle.rhai_reading.specs.Reading.{BinaryOp, NextOperator}
 use Rattle.rhai_reading.proofs.Looks.{op_at, operator_in, fine}
 use Rattle.rhai_reading.proofs.Strengths.{Sensible, sensible, next_continues, right_is, left_is, outer, goes_operator}

@@ -22,12 +22,13 @@ use Rattle.rhai_grammar.specs.Productions.{faultless, unless, stop, name}
 use Rattle.rhai_productions.specs.Readers.{run, run_from}
 use Rattle.rhai_grammar.specs.Rules as P
 use Rattle.rhai_grammar.specs.Rules.{production}
+use Rattle.rhai_productions.proofs.Constructs.{same_construct}
 use Rattle.rhai_productions.proofs.Looked.{Lawful, AgreesAt, equal, equal_at, at_once, look, again, taken, part_so}
 use Rattle.rhai_productions.proofs.Looked.{or_else, test, both}
 use Rattle.rhai_productions.proofs.SameOperands.{same_items, same_element, same_key, same_field, same_called}
 use Rattle.rhai_productions.proofs.SameOperands.{same_postfix, same_links, same_index, same_member, same_operand}
 use Rattle.rhai_productions.proofs.SameOperands.{same_right, same_primary, same_segments, same_follower, same_binary}
-use Rattle.rhai_productions.proofs.SameStatements.{same_construct, same_guard, same_iterated, same_do_end}
+use Rattle.rhai_productions.proofs.SameStatements.{same_guard, same_iterated, same_do_end}
 use Rattle.rhai_productions.proofs.SameStatements.{same_statements, same_jump, same_evaluated, same_inside, same_arms}
 use Rattle.rhai_productions.proofs.SameStatements.{same_arm, same_action, same_arm_end, same_default_end, same_closure}
 use Rattle.rhai_productions.proofs.SameStatements.{same_head, same_parameters, same_parameter, same_counted}

@@ -4,7 +4,6 @@ use Rattle.std.proofs.Common.{◌≡◌, Bool, true, false, Option, Some, None, 
 use Rattle.rhai_lower.specs.Nodes as node
 use Rattle.rhai_grammar.specs.Causes as cause
 use Rattle.rhai_grammar.specs.declared.due.DueToken.TheVariants as due_token
-use Rattle.rhai_grammar.specs.declared.role.Construct.TheVariants as kind
 use Rattle.rhai_grammar.specs.declared.role.AfterStatement.TheVariants as ends
 use Rattle.rhai_grammar.specs.declared.role.StatementRole.TheVariants as stands
 use Rattle.rhai_grammar.specs.declared.list.AfterPart.TheVariants as after
@@ -22,7 +21,6 @@ use Rattle.rhai_grammar.specs.Prelude.{no_function_name, parameters_live, is_amo
 use Rattle.rhai_grammar.specs.Prelude.{in_closure, is_captured, may_capture, not_due, may_raise, level_up, closure_count}
 use Rattle.rhai_grammar.specs.Prelude.{token_after_statement}
 use Rattle.rhai_grammar.specs.Targets.{update_of}
-use Rattle.rhai_grammar.specs.declared.role.Construct.{Construct as Kind}
 use Rattle.rhai_grammar.specs.declared.role.AfterStatement.{AfterStatement}
 use Rattle.rhai_grammar.specs.declared.role.Closing.{Closing}
 use Rattle.rhai_grammar.specs.declared.role.StatementRole.{StatementRole}
@@ -52,17 +50,6 @@ pub same_guard_on : (x : Node) (f : Option Refusal)
     → run (faultless f (if_next (is_due due_token.Equals) (never (λ l. no_assignment)) (give x))) ≡ R.guard_on x f
 same_guard_on x None = refl
 same_guard_on x (Some why) = refl
-
-pub same_construct : (c : Context) (w : Live) (at : Position) (k : Kind) → run (P.construct c w at k)
-    ≡ body (R.Construct c w at k)
-same_construct c w at kind.Block = refl
-same_construct c w at kind.If = refl
-same_construct c w at kind.Switch = refl
-same_construct c w at kind.While = refl
-same_construct c w at kind.Loop = refl
-same_construct c w at kind.Do = refl
-same_construct c w at kind.For = refl
-same_construct c w at kind.Try = refl
 
 pub same_guard : (c : Context) (w : Live) → run (P.guard c w) ≡ body (R.Guard c w)
 same_guard c w = λ i. Peek (λ l at. if is_due due_token.LeftBrace l then Fail (refusal guard_expected at)

@@ -21,6 +21,7 @@ use Rattle.rhai_grammar.specs.Forms as F
 use Rattle.rhai_grammar.specs.Forms.{given, take, this, if_so, if_not, choose, here, must, knows, adds, uses}
 use Rattle.rhai_grammar.specs.Forms.{captures, part, literal, apart, in_text, form}
 use Rattle.rhai_productions.specs.Shaped as Z
+use Rattle.rhai_productions.proofs.Constructs.{shape_of_construct}
 use Rattle.rhai_productions.proofs.Likeness.{keeps}
 use Rattle.rhai_productions.proofs.NearGoals.{Near, Equal, wholes, expressions_, operands, rights, primaries, calleds}
 use Rattle.rhai_productions.proofs.NearGoals.{paths, chains_, indices, members, postfixes, argument_lists, item_lists}
@@ -33,7 +34,7 @@ use Rattle.rhai_productions.proofs.NearGoals.{case_lists, cases_, case_guards, a
 use Rattle.rhai_productions.proofs.NearGoals.{comments_, function_statements, functions, heads, parameter_lists}
 use Rattle.rhai_productions.proofs.NearGoals.{parameters_, closures, closure_bodies}
 use Rattle.rhai_productions.proofs.TreeShapes.{node_added, made_so, method_so, qualified_so, count_shape, fields_shape}
-use Rattle.rhai_productions.proofs.ShapesOfOperands.{LikeIn, like_if, OnNodes, OnLists, OnStatements, construct}
+use Rattle.rhai_productions.proofs.ShapesOfOperands.{LikeIn, like_if, OnNodes, OnLists, OnStatements}
 use Rattle.rhai_productions.proofs.ShapesOfOperands.{operand, right, primary, called, call_like, links, parted, element}
 use Rattle.rhai_productions.proofs.ShapesOfOperands.{OnKeys, key, field, follower, binary}
 use Rattle.rhai_productions.proofs.ShapesOfStatements.{export, statement, OnScripts, statements, inside, do_end_like}
@@ -129,7 +130,7 @@ like _ _ (blocks {c} {w} {v} {at} {pos} i) =
     subst (λ u. LikeIn (λ (x y : node.Block). block_shape x ≡ block_shape y) (P.block_of c w at) (P.block_of c u pos)) i
     (insides, λ f g e. (block_ends e, λ a b d. d))
 like _ _ (block_ends e) = λ l at pos. ap (λ ss. node.braces ss nowhere nowhere) e
-like _ _ (constructs {c} {w} {at} {pos} {k}) = construct c w at pos k
+like _ _ (constructs {c} {w} {at} {pos} {k}) = shape_of_construct c w at pos k
 like _ _ (braced_blocks {c} {w} {v} {at} {pos} i) =
     subst (λ u. LikeIn (λ (x y : node.Block). block_shape x ≡ block_shape y) (P.braced c w at) (P.braced c u pos)) i
     (openings, λ p q u. (blocks refl, λ a b e. e))

@@ -4,7 +4,6 @@ use Rattle.std.proofs.Common.{◌≡◌, ℕ, Bool, true, false, List, Option, S
 use Rattle.std.specs.Prelude.{option_map}
 use Rattle.rhai_lower.specs.Nodes as node
 use Rattle.rhai_grammar.specs.Shapes.{node_shape, nodes_shape, properties_shape, statement_shape}
-use Rattle.rhai_grammar.specs.declared.role.Construct.TheVariants as kind
 use Rattle.rhai_grammar.specs.declared.list.AfterPart.TheVariants as after
 use Rattle.rhai_grammar.specs.declared.list.CommaList.TheVariants as lists
 use Rattle.rhai_grammar.specs.declared.role.Beginning.TheVariants as begin
@@ -12,12 +11,11 @@ use Rattle.rhai_grammar.specs.declared.role.Calling.TheVariants as calls_by
 use Rattle.rhai_grammar.specs.declared.role.ItemRole.TheVariants as place
 use Rattle.rhai_grammar.specs.declared.role.Linking.TheVariants as link
 use Rattle.rhai_grammar.specs.declared.role.OperandStart.TheVariants as first
-use Rattle.rhai_grammar.specs.Prelude.{Lexeme, Position, Context, Live, Text, text_of, Node, nowhere, catch_live}
-use Rattle.rhai_grammar.specs.Prelude.{loop_live, Nodes, Properties, no_nodes, with_property, may_be_value, after_part}
+use Rattle.rhai_grammar.specs.Prelude.{Lexeme, Position, Context, Live, Text, text_of, Node, nowhere}
+use Rattle.rhai_grammar.specs.Prelude.{Nodes, Properties, no_nodes, with_property, may_be_value, after_part}
 use Rattle.rhai_grammar.specs.Prelude.{KeyRole, FieldsEnd, AKey, NoKey, Link, is_this, MemberRole, AMember, NoMember}
 use Rattle.rhai_grammar.specs.Prelude.{Follower, Operator, Unknown, Other, bracket_link, member_link, may_be_closure}
 use Rattle.rhai_grammar.specs.Prelude.{calling, member_role}
-use Rattle.rhai_grammar.specs.declared.role.Construct.{Construct as Kind}
 use Rattle.rhai_grammar.specs.declared.list.AfterPart.{AfterPart}
 use Rattle.rhai_grammar.specs.declared.list.CommaList.{CommaList}
 use Rattle.rhai_grammar.specs.declared.role.Beginning.{Beginning}
@@ -27,19 +25,16 @@ use Rattle.rhai_grammar.specs.declared.role.Linking.{Linking}
 use Rattle.rhai_grammar.specs.declared.role.OperandStart.{OperandStart}
 use Rattle.rhai_grammar.proofs.ShapeSteps.{value, link_shapes}
 use Rattle.rhai_grammar.specs.Strengths.{continues}
-use Rattle.rhai_reading.specs.Reading as R
-use Rattle.rhai_reading.specs.Reading.{Goal, Val}
 use Rattle.rhai_grammar.specs.Productions.{Production, stop}
 use Rattle.rhai_grammar.specs.Rules as P
 use Rattle.rhai_grammar.specs.Rules.{production}
 use Rattle.rhai_productions.proofs.Likeness.{Like}
 use Rattle.rhai_productions.proofs.NearGoals.{Near, Equal, expressions_, operands, rights, primaries, calleds, chains_}
 use Rattle.rhai_productions.proofs.NearGoals.{indices, members, postfixes, argument_lists, element_lists, field_lists}
-use Rattle.rhai_productions.proofs.NearGoals.{segment_lists, followers, runs_, statements_, blocks, constructs}
-use Rattle.rhai_productions.proofs.NearGoals.{braced_blocks, guards, iterated_, conditionals, variables, catches}
-use Rattle.rhai_productions.proofs.NearGoals.{do_ends, arm_lists, closures}
+use Rattle.rhai_productions.proofs.NearGoals.{segment_lists, followers, runs_, statements_, constructs}
+use Rattle.rhai_productions.proofs.NearGoals.{closures}
 use Rattle.rhai_productions.proofs.TreeShapes.{node_added, property_added, text_added, value_so, signed_so, chained_so}
-use Rattle.rhai_productions.proofs.TreeShapes.{operator_so, call_so, link_so, switch_so, catch_so}
+use Rattle.rhai_productions.proofs.TreeShapes.{operator_so, call_so, link_so}
 
 abbrev pub LikeIn : {A B : Type 0} → (A → B → Type 0) → Production A → Production B → Type 0
 LikeIn = Like Near Equal
@@ -60,37 +55,6 @@ OnStatements x y = statement_shape x ≡ statement_shape y
 
 abbrev pub OnBoth : node.Statement × Live → node.Statement × Live → Type 0
 OnBoth x y = (statement_shape x.0 ≡ statement_shape y.0) × (x.1 ≡ y.1)
-
-pub construct : (c : Context) (w : Live) (at pos : Position) (k : Kind) → LikeIn OnStatements (P.construct c w at k)
-    (P.construct c w pos k)
-construct c w at pos kind.Block = (blocks refl, λ a b e. ap node.block_statement e)
-construct c w at pos kind.If = (conditionals, λ f g e. e)
-construct c w at pos kind.Switch =
-    (expressions_, λ x y e l p q. (arm_lists refl, λ a b d. switch_so x y a b at pos e d))
-construct c w at pos kind.While = (guards, λ x y e. (braced_blocks refl, λ a b d. cc))
-construct c w at pos kind.Loop = (braced_blocks refl, λ a b d. cc)
-construct c w at pos kind.Do = (braced_blocks refl, λ a b d. (do_ends, λ m n f. (guards, λ x y e. cc)))
-construct c w at pos kind.For = (
-  variables,
-  λ ns ms f. (
-    iterated_,
-    λ x y e. (
-      braced_blocks (ap (λ (n : Text × Option Text). loop_live n.0 n.1 w) f),
-      λ a b d. (let g : ns.0 ≡ ms.0 = ap (λ (n : Text × Option Text). n.0) f in let h : ns.1 ≡ ms.1 =
-          ap (λ (n : Text × Option Text). n.1) f in cc),
-    ),
-  ),
-)
-construct c w at pos kind.Try = (
-  braced_blocks refl,
-  λ a b d. (
-    catches,
-    λ m n f. (
-      braced_blocks (ap (λ t. catch_live t w) (catch_so m n f).0),
-      λ x y e. (let g = (catch_so m n f).1 in cc),
-    ),
-  ),
-)
 
 pub operand : (c : Context) (w : Live) (v : Beginning) → LikeIn OnNodes (P.operand_by c w v) (P.operand_by c w v)
 operand c w begin.Sign = λ l at pos. (operands, λ x y e. signed_so l at pos x y e)

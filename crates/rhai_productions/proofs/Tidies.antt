@@ -4,7 +4,6 @@ use Rattle.std.proofs.Common.{ℕ, Bool, true, false, Option, Some, None, List, 
 use Rattle.rhai_lower.specs.Nodes.{start_of, method_call, variable}
 use Rattle.rhai_lower.specs.Nodes as node
 use Rattle.rhai_grammar.specs.Switches.{arm_count}
-use Rattle.rhai_grammar.specs.declared.role.Construct.TheVariants as kind
 use Rattle.rhai_grammar.specs.declared.role.AfterStatement.TheVariants as ends
 use Rattle.rhai_grammar.specs.declared.role.StatementRole.TheVariants as stands
 use Rattle.rhai_grammar.specs.declared.list.AfterPart.TheVariants as after
@@ -23,7 +22,6 @@ use Rattle.rhai_grammar.specs.Prelude.{Nodes, Properties, has_single_blocks, may
 use Rattle.rhai_grammar.specs.Prelude.{FieldsEnd, AKey, NoKey, LinkSpot, index_refusal, last_fault, is_this}
 use Rattle.rhai_grammar.specs.Prelude.{MemberRole, AMember, NoMember, arm_fault, Follower, Operator, Unknown, Other}
 use Rattle.rhai_grammar.specs.Prelude.{may_be_closure, Comment, Collected, Use}
-use Rattle.rhai_grammar.specs.declared.role.Construct.{Construct as Kind}
 use Rattle.rhai_grammar.specs.declared.role.AfterStatement.{AfterStatement}
 use Rattle.rhai_grammar.specs.declared.role.Closing.{Closing}
 use Rattle.rhai_grammar.specs.declared.role.StatementRole.{StatementRole}
@@ -45,6 +43,7 @@ use Rattle.rhai_grammar.specs.Productions.{Production, name}
 use Rattle.rhai_grammar.specs.Rules as P
 use Rattle.rhai_grammar.specs.Rules.{production}
 use Rattle.rhai_productions.specs.Tidiness.{Tidy}
+use Rattle.rhai_productions.proofs.Constructs.{tidy_construct}
 use Rattle.rhai_productions.proofs.Faults.{no_fault, last_early, index_early, module_early, guard_early, iterated_early}
 use Rattle.rhai_productions.proofs.Faults.{target_early, fault_early, bang_early}
 
@@ -53,16 +52,6 @@ use Rattle.rhai_productions.proofs.Faults.{target_early, fault_early, bang_early
 by_either : {A : Type 0} (b : Bool) (p q : Production A) → Tidy p → Tidy q → Tidy (if b then p else q)
 by_either true p q g h = g
 by_either false p q g h = h
-
-construct : (c : Context) (w : Live) (at : Position) (k : Kind) → Tidy (P.construct c w at k)
-construct c w at kind.Block = λ b. tt
-construct c w at kind.If = λ f. tt
-construct c w at kind.Switch = λ x l p all. tt
-construct c w at kind.While = λ x b. tt
-construct c w at kind.Loop = λ b. tt
-construct c w at kind.Do = λ b n x. tt
-construct c w at kind.For = λ ns x b. tt
-construct c w at kind.Try = λ b n h. tt
 
 operand : (c : Context) (w : Live) (v : Beginning) → Tidy (P.operand_by c w v)
 operand c w begin.Sign = λ l at. (refl, λ x. (refl, tt))
@@ -281,7 +270,7 @@ tidy R.BlockStart = λ l at. tt
 tidy (R.Inside c w) = inside c w (has_single_blocks c)
 tidy (R.Block c w at) = λ fs b. tt
 tidy (R.BlockEnd at fs) = λ l p. tt
-tidy (R.Construct c w at kind) = construct c w at kind
+tidy (R.Construct c w at kind) = tidy_construct c w at kind
 tidy (R.Braced c w at) = λ opening. (refl, λ b. tt)
 tidy (R.Guard c w) = (tt, λ x. (no_fault (guard_fault x) (guard_early x), (tt, tt)))
 tidy (R.Iterated c w) = (tt, λ x. (no_fault (iterated_fault x) (iterated_early x), tt))

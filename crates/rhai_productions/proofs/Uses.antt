@@ -10,6 +10,7 @@ use Rattle.rhai_reading.specs.Reading as R
 use Rattle.rhai_reading.specs.Reading.{Goal, Script, Val}
 use Rattle.rhai_grammar.specs.Rules.{production}
 use Rattle.rhai_productions.specs.Mentions.{is_read}
+use Rattle.rhai_productions.proofs.Constructs.{uses_of_construct}
 use Rattle.rhai_productions.proofs.TreeMentions.{all_mentions, body_mentions, mentions, statements_mentions}
 use Rattle.rhai_productions.proofs.TreeMentions.{whole_block}
 use Rattle.rhai_productions.specs.UseLaws.{AllReadTheirUses, FunctionsReadTheirUses}
@@ -25,7 +26,7 @@ use Rattle.rhai_productions.proofs.Using.{Keeps}
 use Rattle.rhai_productions.proofs.UsesOfOperands.{Good, Right, binary, by_either, call_of, call_path, called, element}
 use Rattle.rhai_productions.proofs.UsesOfOperands.{field, follower, key, links, operand, parted, path_excludes, primary}
 use Rattle.rhai_productions.proofs.UsesOfOperands.{right}
-use Rattle.rhai_productions.proofs.UsesOfStatements.{action, arm_end, arms, closure_by, construct, default_end, do_end}
+use Rattle.rhai_productions.proofs.UsesOfStatements.{action, arm_end, arms, closure_by, default_end, do_end}
 use Rattle.rhai_productions.proofs.UsesOfStatements.{export, inside, parameter, parameters, statement, statements}
 
 still_variable : (imports : List Text) (x : Node) (t : Text) (p : Position) → is_variable x ≡ true
@@ -88,7 +89,7 @@ table R.BlockStart n = λ is at m. none
 table (R.Inside c w) n = inside c w (has_single_blocks c) n
 table (R.Block c w at) n = λ fs m us h b o vs k. on h k
 table (R.BlockEnd at fs) n = λ is p m. unchanged (statements_mentions fs)
-table (R.Construct c w at kind) n = construct c w at kind n
+table (R.Construct c w at kind) n = uses_of_construct c w at kind n
 table (R.Braced c w at) n = λ p m us u room b o vs h. after u h
 table (R.Guard c w) n = (λ e. tt, λ e x m us h fault. (λ a. tt, λ a. h))
 table (R.Iterated c w) n = (λ e. tt, λ e x m us h fault. h)

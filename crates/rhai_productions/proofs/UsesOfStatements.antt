@@ -19,8 +19,6 @@ use Rattle.rhai_grammar.specs.declared.role.Bars.TheVariants as bars
 use Rattle.rhai_grammar.specs.declared.role.Calling.{Calling}
 use Rattle.rhai_grammar.specs.declared.role.Calling.TheVariants as calls_by
 use Rattle.rhai_grammar.specs.declared.role.Closing.{Closing}
-use Rattle.rhai_grammar.specs.declared.role.Construct.{Construct as Kind}
-use Rattle.rhai_grammar.specs.declared.role.Construct.TheVariants as kind
 use Rattle.rhai_grammar.specs.declared.role.ItemRole.{ItemRole}
 use Rattle.rhai_grammar.specs.declared.role.ItemRole.TheVariants as place
 use Rattle.rhai_grammar.specs.declared.role.StatementRole.{StatementRole}
@@ -35,8 +33,8 @@ use Rattle.rhai_productions.specs.Mentions.{is_read}
 use Rattle.rhai_productions.proofs.TreeMentions.{all_mentions, mentions, statement_mentions, statements_mentions}
 use Rattle.rhai_productions.specs.WrittenFunctions.{free_name}
 use Rattle.rhai_productions.proofs.MentionArms.{arm, collected_mentions, default_arm}
-use Rattle.rhai_productions.proofs.MentionLemmas.{More, Only, after, among_append, both, none, on, prepended}
-use Rattle.rhai_productions.proofs.MentionLemmas.{read_append, same, still, unchanged}
+use Rattle.rhai_productions.proofs.MentionLemmas.{More, Only, after, among_append, none, on}
+use Rattle.rhai_productions.proofs.MentionLemmas.{read_append, same, unchanged}
 use Rattle.rhai_productions.proofs.MentionTrees.{made, one_statement, valued, variable}
 use Rattle.rhai_productions.proofs.UsesOfOperands.{KeepsIn, by_either, parted}
 
@@ -103,18 +101,6 @@ pub inside : (c : Context) (w : Live) (b : Bool) (n : Lexeme)
 unfolding mentions
 inside c w true n = λ f m us h. same (append-nil (statement_mentions f)) h
 inside c w false n = λ fs m us h. h
-
-pub construct : (c : Context) (w : Live) (at : Position) (k : Kind) (n : Lexeme)
-    → KeepsIn (R.Construct c w at k) (λ f us. Only (statement_mentions f) us) (P.construct c w at k) n [] []
-unfolding mentions
-construct c w at kind.Block n = λ b m us h. h
-construct c w at kind.If n = λ f m us h. h
-construct c w at kind.Switch n = λ x m us h e p o all q vs k. both h k
-construct c w at kind.While n = λ x m us h b o vs k. both h k
-construct c w at kind.Loop n = λ b m us h. h
-construct c w at kind.Do n = λ b m us h negated o vs j x q ts k. on (on h (still j)) (prepended k)
-construct c w at kind.For n = λ ns m us i x o vs h b q ts k. both (after i h) k
-construct c w at kind.Try n = λ b m us h name o vs i handler q ts k. both (on h (still i)) k
 
 pub do_end : (v : Option Bool) (n : Lexeme) → KeepsIn R.DoEnd (λ x us. Only [] us) (P.do_end_by v) n [] []
 do_end None n = tt

@@ -13,7 +13,6 @@ use Rattle.rhai_grammar.specs.Delivered.{is_memory}
 use Rattle.rhai_grammar.specs.Statements.{is_comment, statement_start}
 use Rattle.rhai_grammar.specs.declared.role.StatementStart.TheVariants as start
 use Rattle.rhai_grammar.specs.Comments.{comment_of as comment_at}
-use Rattle.rhai_reading.specs.Reading as reading
 use Rattle.rhai_reading.specs.Reading.{Call, Comments, Fail, FunctionStatement, Goal, Peek, Ret, Statement, Take, comments_at, documented, documented_at, fn_on, statement_at}
 use Rattle.rhai_reading.specs.Running as R
 use Rattle.rhai_reading.specs.Running.{Done, Progress, and_then, next_item, exec, guarded, after_peek, nested, result_of, after_take}

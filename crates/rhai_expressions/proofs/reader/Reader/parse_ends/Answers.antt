@@ -1,7 +1,7 @@
 use Rattle.std.proofs.Common.{◌≡◌, ◌≤◌, ◌∙◌, Err, Ok, ap, arith, refl, subst, sym}
 use Rattle.rhai_trees.specs.Chains.{chain_view}
 use Rattle.rhai_grammar.specs.Cursors.{left}
-use Rattle.rhai_reading.specs.Running.{Progress, after_peek, exec, guarded}
+use Rattle.rhai_reading.specs.Running.{Progress, exec, guarded}
 use Rattle.rhai_readers.proofs.Given.{gives_so}
 use Rattle.rhai_expressions.proofs.OperandLemmas.{ends_counted, ends_looked}
 use Rattle.rhai_readers.specs.Frames.{context_of, live_of}

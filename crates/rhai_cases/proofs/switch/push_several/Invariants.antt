@@ -4,7 +4,7 @@ use Rattle.rhai_lower.specs.View.{views}
 use Rattle.rhai_grammar.specs.Switches.{with_cases}
 use Rattle.rhai_cases.specs.CaseKeys.{Keyed}
 use Rattle.rhai_cases.specs.Switches.{collected_view}
-use Rattle.rhai_cases.proofs.switch.push_cases.Given as goal
+use Rattle.rhai_cases.proofs.switch.push_several.Given as goal
 
 abbrev pub invariant-loop-case : goal.invariant-loop-case
 invariant-loop-case l = record {
