@@ -1,5 +1,6 @@
 -- How the contracts speak of a run of operators, one operator after the other.
-use Rattle.std.specs.Prelude.{◌≡◌, ◌+◌, ◌≤◌, ℕ, IfOk, IsSome, OnOk, Option, Some, None, Ok, Result, false, if◌then◌else◌}
+use Rattle.std.specs.Prelude.{◌≡◌, ◌+◌, ◌≤◌, ℕ, false, if◌then◌else◌}
+use Rattle.std.specs.Prelude.{IfOk, IsSome, OnOk, Option, Some, None, Ok, Result}
 use Rattle.rhai_lower.specs.Lexemes.{Lexeme, lexeme}
 use Rattle.rhai_lower.specs.Nodes.{Node}
 use Rattle.rhai_lower.specs.declared.position.Position.{Position}

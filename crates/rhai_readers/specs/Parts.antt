@@ -1,5 +1,5 @@
--- What the contracts of readers say of the next token, and what readers promise that read a part of what a goal says, or
--- that promise more than their goal.
+-- What the contracts of readers say of the next token, and what a reader promises that reads a part of what its goal
+-- says, or more than its goal.
 use Rattle.std.specs.Prelude.{◌≡◌, ◌+◌, ◌≤◌, ℕ, IfOk, OnOk, Result, false}
 use Rattle.rhai_grammar.specs.Beginnings.{beginning}
 use Rattle.rhai_grammar.specs.Cursors.{left}

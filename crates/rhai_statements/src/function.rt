@@ -104,8 +104,8 @@ impl<R: LentReaders> Reader<'_, R> {
         requires at { AtToken (state_of shared.old) }
         requires lent { Covers (R.lent self.now.readers) (statement self.now.engine.now frame.now settings) shared.old }
         ensures { TakesPart self.now.engine.now frame.now settings (1 + function_height self.now.engine.now settings)
-            (private_on (context_of self.now.engine.now frame.now settings) (live_of frame.now) (comments_of comments.now)
-            settings.pos) (with_live statement_view frame.now) shared.old result shared.new }
+            (private_on (context_of self.now.engine.now frame.now settings) (live_of frame.now)
+            (comments_of comments.now) settings.pos) (with_live statement_view frame.now) shared.old result shared.new }
     {
         skip(shared.input);
         let (_, pos) = peek(shared.input)?;
