@@ -4,6 +4,7 @@ ghost use Rattle.std.specs.Prelude.{◌≡◌, IfOk, false, option_map};
 ghost use Rattle.rhai_lower.specs.View.{view};
 ghost use Rattle.rhai_grammar.specs.Delivered.{is_end};
 ghost use Rattle.rhai_reading.specs.Running.{next_item};
+ghost use Rattle.rhai_readers.specs.Parts.{ReadsSuch};
 ghost use Rattle.rhai_readers.specs.Readers.{Covers, ReadsAs, called, index, links, member, state_of};
 ghost use Rattle.rhai_trees.specs.Chains.{chain_view};
 ghost use Rattle.rhai_trees.specs.Linked.{is_linked};
@@ -186,8 +187,8 @@ impl<R: LentReaders> Reader<'_, R> {
     ) -> ParseResult<Expr>
         requires seen { is_end (next_item (state_of shared.old)).lexeme ≡ false }
         requires lent { Covers (R.lent self.now.readers) (member self.now.engine.now frame.now settings) shared.old }
-        ensures reads { ReadsAs self.now.engine.now frame.now settings 2 member view shared.old result shared.new }
-        ensures value { IfOk result (λ x. is_linked (view x) ≡ false) }
+        ensures { ReadsSuch self.now.engine.now frame.now settings 2 member view (λ x. is_linked (view x) ≡ false)
+            shared.old result shared.new }
     {
         let (token, pos) = peek(shared.input)?;
         let pos = *pos;

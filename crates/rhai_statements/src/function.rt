@@ -17,6 +17,7 @@ ghost use Rattle.rhai_base.specs.Frames.{SameSurroundings};
 ghost use Rattle.rhai_readers.specs.Frames.{context_of, live_of};
 ghost use Rattle.rhai_readers.specs.Readers.{Covers, GoesOn, ReadsAs, ended_view, function, function_statement};
 ghost use Rattle.rhai_readers.specs.Readers.{head_view, names_of, state_of, statement, with_live};
+ghost use Rattle.rhai_readers.specs.Parts.{AtToken, ReadsSuch, TakesPart};
 ghost use Rattle.rhai_reading.specs.Reading.{Goal, fn_on, function_end, private_on, statement_at};
 ghost use Rattle.rhai_reading.specs.Running.{Caller, Gives, Progress, next_item, exec, guarded};
 ghost use Rattle.rhai_readers.specs.Heights.{Ends, Stays, function_height};
@@ -51,16 +52,9 @@ impl<R: LentReaders> Reader<'_, R> {
     ) -> ParseResult<Stmt>
         requires more { is_end (next_item (state_of shared.old)).lexeme ≡ false }
         requires lent { Covers (R.lent self.now.readers) (statement self.now.engine.now frame.now settings) shared.old }
-        ensures goes_on { GoesOn shared.old shared.new }
-        ensures shorter { OnOk result (left (state_of shared.new).cursor.tokens + 1
-            ≤ left (state_of shared.old).cursor.tokens) }
-        ensures stays { Stays self.now.engine.now frame.now settings
-            (1 + function_height self.now.engine.now settings) shared.old shared.new }
-        ensures reads { (g : Goal) (s : Progress)
-            → left (state_of shared.old).cursor.tokens ≤ left s.cursor.tokens
-            → Gives (with_live statement_view frame.now) (exec (guarded g s) (statement_at
-            (context_of self.now.engine.now frame.now settings) (live_of frame.now) settings.pos Comment)
-            (state_of shared.old)) result (state_of shared.new) }
+        ensures { TakesPart self.now.engine.now frame.now settings (1 + function_height self.now.engine.now settings)
+            (statement_at (context_of self.now.engine.now frame.now settings) (live_of frame.now) settings.pos Comment)
+            (with_live statement_view frame.now) shared.old result shared.new }
     {
         let alloc = self.engine.alloc();
         let comment = take_text(alloc, shared.input)?;
@@ -86,18 +80,11 @@ impl<R: LentReaders> Reader<'_, R> {
         settings: ParseSettings,
         comments: &[(RcStr, Position)],
     ) -> ParseResult<Stmt>
-        requires readable { is_memory (next_item (state_of shared.old)).lexeme ≡ false }
-        requires more { is_end (next_item (state_of shared.old)).lexeme ≡ false }
+        requires at { AtToken (state_of shared.old) }
         requires lent { Covers (R.lent self.now.readers) (statement self.now.engine.now frame.now settings) shared.old }
-        ensures goes_on { GoesOn shared.old shared.new }
-        ensures shorter { left (state_of shared.new).cursor.tokens + 1 ≤ left (state_of shared.old).cursor.tokens }
-        ensures stays { Stays self.now.engine.now frame.now settings
-            (1 + function_height self.now.engine.now settings) shared.old shared.new }
-        ensures reads { (g : Goal) (s : Progress)
-            → left (state_of shared.old).cursor.tokens ≤ left s.cursor.tokens
-            → Gives (with_live statement_view frame.now) (exec (guarded g s) (fn_on
-            (context_of self.now.engine.now frame.now settings) (live_of frame.now) (comments_of comments.now)
-            settings.pos) (state_of shared.old)) result (state_of shared.new) }
+        ensures { TakesPart self.now.engine.now frame.now settings (1 + function_height self.now.engine.now settings)
+            (fn_on (context_of self.now.engine.now frame.now settings) (live_of frame.now) (comments_of comments.now)
+            settings.pos) (with_live statement_view frame.now) shared.old result shared.new }
     {
         skip(shared.input);
         nested!(
@@ -116,18 +103,11 @@ impl<R: LentReaders> Reader<'_, R> {
         settings: ParseSettings,
         comments: &[(RcStr, Position)],
     ) -> ParseResult<Stmt>
-        requires readable { is_memory (next_item (state_of shared.old)).lexeme ≡ false }
-        requires more { is_end (next_item (state_of shared.old)).lexeme ≡ false }
+        requires at { AtToken (state_of shared.old) }
         requires lent { Covers (R.lent self.now.readers) (statement self.now.engine.now frame.now settings) shared.old }
-        ensures goes_on { GoesOn shared.old shared.new }
-        ensures shorter { left (state_of shared.new).cursor.tokens + 1 ≤ left (state_of shared.old).cursor.tokens }
-        ensures stays { Stays self.now.engine.now frame.now settings
-            (1 + function_height self.now.engine.now settings) shared.old shared.new }
-        ensures reads { (g : Goal) (s : Progress)
-            → left (state_of shared.old).cursor.tokens ≤ left s.cursor.tokens
-            → Gives (with_live statement_view frame.now) (exec (guarded g s) (private_on
-            (context_of self.now.engine.now frame.now settings) (live_of frame.now) (comments_of comments.now)
-            settings.pos) (state_of shared.old)) result (state_of shared.new) }
+        ensures { TakesPart self.now.engine.now frame.now settings (1 + function_height self.now.engine.now settings)
+            (private_on (context_of self.now.engine.now frame.now settings) (live_of frame.now) (comments_of comments.now)
+            settings.pos) (with_live statement_view frame.now) shared.old result shared.new }
     {
         skip(shared.input);
         let (_, pos) = peek(shared.input)?;
@@ -191,9 +171,8 @@ impl<R: LentReaders> Reader<'_, R> {
         requires alone { frame.old.live ≡ nothing_live }
         requires lent { Covers (R.lent self.now.readers)
             (function (comments_of comments.now) private self.now.engine.now frame.old settings) shared.old }
-        ensures reads { ReadsAs self.now.engine.now frame.old settings 0 (function (comments_of comments.now) private)
-            ended_view shared.old result shared.new }
-        ensures named { IfOk result (λ e. is_closure (key_of e.0) ≡ false) }
+        ensures { ReadsSuch self.now.engine.now frame.old settings 0 (function (comments_of comments.now) private)
+            ended_view (λ e. is_closure (key_of e.0) ≡ false) shared.old result shared.new }
     {
         let head = next_head(self.engine.alloc(), shared.input)?;
         let names = next_parameter_list(self.engine.alloc(), shared, &head.1)?;

@@ -13,6 +13,7 @@ ghost use Rattle.rhai_grammar.specs.Cursors.{left};
 ghost use Rattle.rhai_grammar.specs.Statements.{ends_itself, statement_start};
 ghost use Rattle.rhai_readers.specs.Frames.{context_of};
 ghost use Rattle.rhai_statements.specs.RareStatements.{is_jump, is_rare};
+ghost use Rattle.rhai_statements.specs.Statements.{ReadsStatement};
 ghost use Rattle.rhai_reading.specs.Running.{next_item};
 ghost use Rattle.rhai_base.specs.Frames.{SameSurroundings};
 ghost use Rattle.rhai_readers.specs.Readers.{inside, jump, state_of, statements, statements_of, with_live};
@@ -84,12 +85,7 @@ impl<R: LentReaders> Reader<'_, R> {
         settings: ParseSettings,
     ) -> ParseResult<Stmt>
         requires lent { Covers (R.lent self.now.readers) (statement self.now.engine.now frame.old settings) shared.old }
-        ensures reads { ReadsAs self.now.engine.now frame.old settings
-            (1 + function_height self.now.engine.now settings) statement (with_live statement_view frame.new) shared.old
-            result shared.new }
-        ensures place { SameSurroundings frame.old frame.new }
-        ensures takes { IfOk result (λ s. ends_itself (statement_view s) ≡ true
-            → left (state_of shared.new).cursor.tokens + 1 ≤ left (state_of shared.old).cursor.tokens) }
+        ensures { ReadsStatement self.now.engine.now frame.old frame.new settings shared.old result shared.new }
     {
         let (token, pos) = peek(shared.input)?;
         match what_starts(self.engine.allow_looping(), token) {
@@ -123,11 +119,7 @@ impl<R: LentReaders> Reader<'_, R> {
         requires jump { is_jump (statement_start (context_of self.now.engine.now frame.now settings)
             (next_item (state_of shared.old)).lexeme) ≡ true }
         requires lent { Covers (R.lent self.now.readers) (statement self.now.engine.now frame.now settings) shared.old }
-        ensures reads { ReadsAs self.now.engine.now frame.now settings
-            (1 + function_height self.now.engine.now settings) statement (with_live statement_view frame.now) shared.old
-            result shared.new }
-        ensures takes { IfOk result (λ s. ends_itself (statement_view s) ≡ true
-            → left (state_of shared.new).cursor.tokens + 1 ≤ left (state_of shared.old).cursor.tokens) }
+        ensures { ReadsStatement self.now.engine.now frame.now frame.now settings shared.old result shared.new }
     {
         let (token, pos) = peek(shared.input)?;
         let settings = settings.at(*pos);
@@ -169,12 +161,7 @@ impl<R: LentReaders> Reader<'_, R> {
         requires keyword { is_rare (statement_start (context_of self.now.engine.now frame.old settings)
             (next_item (state_of shared.old)).lexeme) ≡ true }
         requires lent { Covers (R.lent self.now.readers) (statement self.now.engine.now frame.old settings) shared.old }
-        ensures reads { ReadsAs self.now.engine.now frame.old settings
-            (1 + function_height self.now.engine.now settings) statement (with_live statement_view frame.new) shared.old
-            result shared.new }
-        ensures place { SameSurroundings frame.old frame.new }
-        ensures takes { IfOk result (λ s. ends_itself (statement_view s) ≡ true
-            → left (state_of shared.new).cursor.tokens + 1 ≤ left (state_of shared.old).cursor.tokens) }
+        ensures { ReadsStatement self.now.engine.now frame.old frame.new settings shared.old result shared.new }
     {
         let (token, pos) = peek(shared.input)?;
         let settings = settings.at(*pos);

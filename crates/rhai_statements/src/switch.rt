@@ -8,6 +8,7 @@ ghost use Rattle.rhai_lower.specs.View.{statement_view, view};
 ghost use Rattle.rhai_grammar.specs.Cursors.{left};
 ghost use Rattle.rhai_grammar.specs.Switches.{nothing_collected};
 ghost use Rattle.rhai_grammar.specs.declared.role.Construct.TheVariants.{Switch};
+ghost use Rattle.rhai_readers.specs.Parts.{ReadsSuch};
 ghost use Rattle.rhai_readers.specs.Readers.{Covers, ReadsAs, action, arm, arms, case, case_guard, cases};
 ghost use Rattle.rhai_readers.specs.Readers.{construct};
 ghost use Rattle.rhai_readers.specs.Readers.{default_arm, state_of};
@@ -103,10 +104,9 @@ impl<R: LentReaders> Reader<'_, R> {
         requires in_cases { CaseFrame frame.now in_cases.now }
         requires lent { Covers (R.lent self.now.readers)
             (arm (arms_view before.now) self.now.engine.now frame.now settings) shared.old }
-        ensures reads { ReadsAs self.now.engine.now frame.now settings 3 (arm (arms_view before.now)) arm_view
+        ensures { ReadsSuch self.now.engine.now frame.now settings 3 (arm (arms_view before.now)) arm_view
+            (λ _. left (state_of shared.new).cursor.tokens + 1 ≤ left (state_of shared.old).cursor.tokens)
             shared.old result shared.new }
-        ensures shrinks { OnOk result
-            (left (state_of shared.new).cursor.tokens + 1 ≤ left (state_of shared.old).cursor.tokens) }
     {
         let cases = self.parse_cases(shared, frame, in_cases, settings)?;
         let guard = nested!(shared, self.parse_case_guard(shared, frame, settings))?;
@@ -160,7 +160,35 @@ impl<R: LentReaders> Reader<'_, R> {
         ensures { ReadsAs self.now.engine.now frame.now settings 2 (cases no_nodes) cases_view shared.old result
             shared.new }
     {
-        let mut cases = SmallVec::new(self.engine.alloc());
+        let case = nested!(shared, self.parse_case(shared, frame, in_cases, settings))?;
+        let cases = SmallVec::from_buf(self.engine.alloc(), [case]);
+        if !pass_token(shared.input, DueToken::Pipe)? {
+            return Ok(cases);
+        }
+        match self.parse_more_cases(shared, frame, in_cases, settings, cases) {
+            Ok(cases) => Ok(cases),
+            Err(error) => Err(error),
+        }
+    }
+
+    // Reads a case of an arm and those that follow, after these. It is apart, since few arms have several cases.
+    #[inline(never)]
+    #[tactic(auto, using(crate::proofs::ConstructReaders::parse_cases))]
+    fn parse_more_cases(
+        &self,
+        shared: &mut Shared<'_>,
+        frame: &Frame<'_>,
+        in_cases: &Frame<'_>,
+        settings: ParseSettings,
+        before: SmallVec<Expr, 1>,
+    ) -> ParseResult<SmallVec<Expr, 1>>
+        requires in_cases { CaseFrame frame.now in_cases.now }
+        requires lent { Covers (R.lent self.now.readers)
+            (cases (cases_view before) self.now.engine.now frame.now settings) shared.old }
+        ensures { ReadsAs self.now.engine.now frame.now settings 2 (cases (cases_view before)) cases_view shared.old
+            result shared.new }
+    {
+        let mut cases = before;
         loop {
             let case = nested!(shared, self.parse_case(shared, frame, in_cases, settings))?;
             cases.push(case)?;

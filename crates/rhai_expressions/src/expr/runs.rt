@@ -17,7 +17,7 @@ ghost use Rattle.rhai_readers.specs.Frames.{context_of, live_of};
 ghost use Rattle.rhai_readers.specs.Parts.{AtToken};
 ghost use Rattle.rhai_readers.specs.Readers.{Covers, GoesOn, ReadsAs, binary_op, state_of};
 ghost use Rattle.rhai_readers.specs.Heights.{Stays};
-ghost use Rattle.rhai_expressions.specs.Runs.{Follows, NextIs, in_run, right_side, side_view};
+ghost use Rattle.rhai_expressions.specs.Runs.{Follows, ReadsSide, in_run};
 
 use crate::expr::asks::next_operator;
 use crate::reader::Reader;
@@ -160,20 +160,7 @@ impl<R: LentReaders> Reader<'_, R> {
     ) -> ParseResult<Side>
         requires at { AtToken (state_of shared.old) }
         requires lent { Covers (R.lent self.now.readers) (NextOperator frame.now.filter) shared.old }
-        ensures goes_on { GoesOn shared.old shared.new }
-        ensures shorter { OnOk result (left (state_of shared.new).cursor.tokens + 1
-            ≤ left (state_of shared.old).cursor.tokens) }
-        ensures stays { Stays self.now.engine.now frame.now settings 5 shared.old shared.new }
-        ensures raises { IfOk result (λ r. RaisesInRun settings r.pos (Ok r.deeper)) }
-        ensures deeper { IfOk result (λ r. IsDeeper settings r.deeper.side × IsDeeper settings r.deeper.next) }
-        ensures next { IfOk result (λ r. NextIs frame.now.filter r.next (state_of shared.new)) }
-        ensures readable { OnOk result (is_memory (next_item (state_of shared.new)).lexeme ≡ false) }
-        ensures more { IfOk result (λ r. IsSome r.next → is_end (next_item (state_of shared.new)).lexeme ≡ false) }
-        ensures reads { (g : Goal) (s : Progress)
-            → left (state_of shared.old).cursor.tokens ≤ left s.cursor.tokens
-            → Gives side_view (exec (guarded g s) (right_side
-            (context_of self.now.engine.now frame.now settings) (live_of frame.now) settings.pos)
-            (state_of shared.old)) result (state_of shared.new) }
+        ensures { ReadsSide self.now.engine.now frame.now settings shared.old result shared.new }
     {
         let (op_token, pos) = take(shared.input);
         let place = role_after(&op_token);

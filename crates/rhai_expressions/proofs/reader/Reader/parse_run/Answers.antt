@@ -83,9 +83,9 @@ loop-operator-preserved-then-is_some g c =
     let less : 1 ≤ start.max_expr_depth → levels_left side.deeper.side ≤ levels_left start = grind arith in
     record {
       awaits = pushed_as (pushes g (goal.at.loop-operator-preserved-then-is_some g c).After-after-outer) is.side.1 c.loop-operator.invariant.awaits c.in_ok-push.ensures.items;
-      next = c.in_ok-side.ensures.next;
-      readable = c.in_ok-side.ensures.readable;
-      more = c.in_ok-side.ensures.more;
+      next = c.in_ok-side.ensures.next.is;
+      readable = c.in_ok-side.ensures.next.readable;
+      more = c.in_ok-side.ensures.next.more;
       goes_on = search rules;
       stays = grind arith;
       limit = ap (λ (x : Settings). x.limit) is.settings ∙ c.in_ok-side.ensures.deeper.0.limit ∙ c.loop-operator.invariant.limit;
@@ -100,7 +100,7 @@ waits_alone g c =
     let side = c.after-outer.result.1 in
     let t = state_of c.parse_operator.new.shared in
     let none : c.in_run-in-Some.result ≡ None = search rules in
-    let ends = run_ends (context_of c.args.self.now.engine.now c.args.frame.now side.settings) (live_of c.args.frame.now) side.settings.pos side.parent (chain_view side.lhs) t c.in_ok-side.side.next c.in_ok-side.ensures.next (sym c.in_run-in-Some.ensures ∙ none) in
+    let ends = run_ends (context_of c.args.self.now.engine.now c.args.frame.now side.settings) (live_of c.args.frame.now) side.settings.pos side.parent (chain_view side.lhs) t c.in_ok-side.side.next c.in_ok-side.ensures.next.is (sym c.in_run-in-Some.ensures ∙ none) in
     let awaits = pushed_as (pushes g (goal.at.After-join g c).After-after-outer) c.after-outer.ensures.side.1 c.loop-operator.invariant.awaits refl in
     record { inside = awaits.inside; waits = awaits.waits; same = awaits.same ∙ ap awaits.inside ends }
 
@@ -111,9 +111,9 @@ loop-operator-preserved-else-is_some g c =
     let start = c.args.settings in
     record {
       awaits = popped_as awaits _ _ _ _ refl refl rest.1 rest.0 (omega (arith)) c.in_ok-run.ensures.answers;
-      next = c.in_ok-side.ensures.next;
-      readable = c.in_ok-side.ensures.readable;
-      more = c.in_ok-side.ensures.more;
+      next = c.in_ok-side.ensures.next.is;
+      readable = c.in_ok-side.ensures.next.readable;
+      more = c.in_ok-side.ensures.next.more;
       goes_on = search rules;
       stays = grind arith;
       limit = ap (λ (d : ParseSettings). d.max_expr_depth) rest.1 ∙ popped_limit awaits _ _ _ _ refl refl;

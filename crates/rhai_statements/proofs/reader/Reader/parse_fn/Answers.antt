@@ -37,7 +37,7 @@ returns-in_err-key g c = record {
         stands = search rules;
       } in
       rw (p.1, p.2) (function_fails context (live_of c.args.frame.now) (comments_of c.args.comments.now) c.args.first c.args.settings.pos c.args.private inside c.in_ok-deeper.deeper.pos (state_of c.args.shared.now) begun
-      _ (state_of c.nested-leave.new.self) (nested_gives ended_view _ _ _ _ _ (Err _) c.nested-enter.ensures.enters c.in_err-key.ensures.reads.reads c.nested-leave.ensures.leaves));
+      _ (state_of c.nested-leave.new.self) (nested_gives ended_view _ _ _ _ _ (Err _) c.nested-enter.ensures.enters c.in_err-key.ensures.reads c.nested-leave.ensures.leaves));
 }
 
 pub returns : goal.returns
@@ -46,7 +46,7 @@ returns g c = record {
   stays =
       let limit = c.args.self.now.engine.now.max_functions in
       let begun = c.args.frame.now.begun in
-      let ends = c.end_function.ensures.ends c.in_ok-key.ensures.named in
+      let ends = c.end_function.ensures.ends c.in_ok-key.ensures.such in
       record {
         nesting = grind (arith, rule.rooms);
         library = λ h.
@@ -65,6 +65,6 @@ returns g c = record {
       } in
       let call = guarded (FunctionStatement context (live_of c.args.frame.now) (comments_of c.args.comments.now) c.args.first c.args.settings.pos c.args.private) (state_of c.args.shared.now) in
       function_gives (with_live statement_view c.args.frame.now) context (live_of c.args.frame.now) (comments_of c.args.comments.now) c.args.first c.args.settings.pos c.args.private inside c.in_ok-deeper.deeper.pos (state_of c.args.shared.now) begun
-      (ended_view (c.in_ok-key.key, c.in_ok-key.function)) (state_of c.nested-leave.new.self) (nested_done _ _ c.nested-enter.ensures.enters c.in_ok-key.ensures.reads.reads c.nested-leave.ensures.leaves)
+      (ended_view (c.in_ok-key.key, c.in_ok-key.function)) (state_of c.nested-leave.new.self) (nested_done _ _ c.nested-enter.ensures.enters c.in_ok-key.ensures.reads c.nested-leave.ensures.leaves)
       c.end_function.result (state_of c.end_function.new.shared) (c.end_function.ensures.gives call (live_of c.args.frame.now));
 }

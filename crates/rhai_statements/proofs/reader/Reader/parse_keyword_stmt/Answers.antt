@@ -10,9 +10,11 @@ use Rattle.rhai_statements.proofs.CommentLemmas.{function_starts}
 use Rattle.rhai_statements.proofs.StmtReaders as rule
 use Rattle.rhai_statements.proofs.reader.Reader.parse_keyword_stmt.Goals as goal
 
-pub returns-in-Function-clause-reads : goal.returns-in-Function-clause-reads
-returns-in-Function-clause-reads g c = record {
+pub returns-in-Function : goal.returns-in-Function
+returns-in-Function g c = record {
   goes_on = grind arith;
+  place = grind arith;
+  takes = grind arith;
   stays =
       let same = room_same c.args.self.now.engine.now c.at-settings.result c.args.settings c.at-settings.ensures.settings in
       record { nesting = grind (arith, same); library = grind arith };
@@ -30,18 +32,22 @@ returns-in-Function-clause-reads g c = record {
       (c.parse_plain_fn.ensures.reads (statement engine frame c.args.settings) old (grind arith));
 }
 
-pub returns-in-Private-clause-reads : goal.returns-in-Private-clause-reads
-returns-in-Private-clause-reads g c = record {
+pub returns-in-Private : goal.returns-in-Private
+returns-in-Private g c = record {
   goes_on = grind arith;
+  place = grind arith;
+  takes = grind arith;
   stays =
       let same = room_same c.args.self.now.engine.now c.at-settings.result c.args.settings c.at-settings.ensures.settings in
       record { nesting = grind (arith, same); library = grind arith };
   reads = grind (arith, rule.parse_stmt);
 }
 
-pub returns-in-Comment-clause-reads : goal.returns-in-Comment-clause-reads
-returns-in-Comment-clause-reads g c = record {
+pub returns-in-Comment : goal.returns-in-Comment
+returns-in-Comment g c = record {
   goes_on = grind arith;
+  place = grind arith;
+  takes = grind arith;
   stays =
       let same = room_same c.args.self.now.engine.now c.at-settings.result c.args.settings c.at-settings.ensures.settings in
       record { nesting = grind (arith, same); library = grind arith };

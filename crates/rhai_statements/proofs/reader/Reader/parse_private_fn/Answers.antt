@@ -13,23 +13,30 @@ use Rattle.rhai_readers.proofs.Heights.{room_same}
 use Rattle.rhai_statements.proofs.StmtReaders as rule
 use Rattle.rhai_statements.proofs.reader.Reader.parse_private_fn.Goals as goal
 
-pub returns-in_err-match_token-clause-reads : goal.returns-in_err-match_token-clause-reads
-returns-in_err-match_token-clause-reads g c = λ h s within.
-    let p = err_from_is_err_and c.from_residual-in_err-match_token.result c.from_residual-in_err-match_token.ensures.1 in
-    rw (p.1, p.2) (grind (arith, rule.parse_private_fn))
+pub returns-in_err-match_token : goal.returns-in_err-match_token
+returns-in_err-match_token g c = record {
+  goes_on = grind arith;
+  shorter = tt;
+  stays = grind arith;
+  reads = λ h s within.
+      let p = err_from_is_err_and c.from_residual-in_err-match_token.result c.from_residual-in_err-match_token.ensures.1 in
+      rw (p.1, p.2) (grind (arith, rule.parse_private_fn));
+}
 
-pub returns-clause-reads : goal.returns-clause-reads
-returns-clause-reads g c = λ h s within.
-    let engine = c.args.self.now.engine.now in
-    let frame = c.args.frame.now in
-    let comments = comments_of c.args.comments.now in
-    let read = result_of (function_statement comments c.args.settings.pos true engine frame c.at-inner.result) in
-    let from = state_at c.args.shared.now (cursor_of c.match_token.new.input) in
-    let same : exec (guarded h s) (private_on (context_of engine frame c.args.settings) (live_of frame) comments c.args.settings.pos) (state_of c.args.shared.now) ≡ nested read from = grind (arith, rule.parse_private_fn) in
-    let given = nested_gives (with_live statement_view frame) read from _ _ _ c.parse_fn.result c.nested-enter.ensures.enters c.parse_fn.ensures.reads c.nested-leave.ensures.leaves in
-    gives_so (with_live statement_view frame) c.parse_fn.result (state_of c.nested-leave.new.self) same given
-
-pub returns-clause-stays : goal.returns-clause-stays
-returns-clause-stays g c =
-    let same = room_same c.args.self.now.engine.now c.at-inner.result c.args.settings c.at-inner.ensures.settings in
-    record { nesting = grind (arith, same); library = grind arith }
+pub returns : goal.returns
+returns g c = record {
+  goes_on = grind arith;
+  shorter = grind arith;
+  stays =
+      let same = room_same c.args.self.now.engine.now c.at-inner.result c.args.settings c.at-inner.ensures.settings in
+      record { nesting = grind (arith, same); library = grind arith };
+  reads = λ h s within.
+      let engine = c.args.self.now.engine.now in
+      let frame = c.args.frame.now in
+      let comments = comments_of c.args.comments.now in
+      let read = result_of (function_statement comments c.args.settings.pos true engine frame c.at-inner.result) in
+      let from = state_at c.args.shared.now (cursor_of c.match_token.new.input) in
+      let same : exec (guarded h s) (private_on (context_of engine frame c.args.settings) (live_of frame) comments c.args.settings.pos) (state_of c.args.shared.now) ≡ nested read from = grind (arith, rule.parse_private_fn) in
+      let given = nested_gives (with_live statement_view frame) read from _ _ _ c.parse_fn.result c.nested-enter.ensures.enters c.parse_fn.ensures.reads c.nested-leave.ensures.leaves in
+      gives_so (with_live statement_view frame) c.parse_fn.result (state_of c.nested-leave.new.self) same given;
+}

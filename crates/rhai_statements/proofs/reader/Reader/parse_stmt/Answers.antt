@@ -1,4 +1,4 @@
-use Rattle.std.proofs.Common.{◌∙◌, ap, arith, refl, sym}
+use Rattle.std.proofs.Common.{◌∙◌, ap, arith, refl, rules, sym}
 use Rattle.rhai_lower.specs.View.{statement_view}
 use Rattle.rhai_reading.specs.Running.{result_of}
 use Rattle.rhai_readers.proofs.Given.{gives_so}
@@ -6,22 +6,26 @@ use Rattle.rhai_readers.specs.Readers.{state_of, statement, with_live}
 use Rattle.rhai_reading.proofs.Steps.{looked}
 use Rattle.rhai_statements.proofs.reader.Reader.parse_stmt.Goals as goal
 
-pub returns-in-Return-clause-reads : goal.returns-in-Return-clause-reads
-returns-in-Return-clause-reads g c = record {
+pub returns-in-Return : goal.returns-in-Return
+returns-in-Return g c = record {
   goes_on = grind arith;
   stays = grind arith;
+  place = search rules;
+  takes = grind arith;
   reads =
       let goal = statement c.args.self.now.engine.now c.args.frame.now c.args.settings in
       gives_so (with_live statement_view c.args.frame.now) c.parse_jump_stmt.result (state_of c.parse_jump_stmt.new.shared)
-      (sym (looked goal _ (state_of c.args.shared.now) refl) ∙ ap (result_of goal) (grind arith)) c.parse_jump_stmt.ensures.reads.reads;
+      (sym (looked goal _ (state_of c.args.shared.now) refl) ∙ ap (result_of goal) (grind arith)) c.parse_jump_stmt.ensures.reads;
 }
 
-pub returns-in_default-clause-reads : goal.returns-in_default-clause-reads
-returns-in_default-clause-reads g c = record {
+pub returns-in_default : goal.returns-in_default
+returns-in_default g c = record {
   goes_on = grind arith;
   stays = grind arith;
+  place = search rules;
+  takes = grind arith;
   reads =
       let goal = statement c.args.self.now.engine.now c.args.frame.now c.args.settings in
       gives_so (with_live statement_view c.parse_keyword_stmt.new.frame) c.parse_keyword_stmt.result (state_of c.parse_keyword_stmt.new.shared)
-      (sym (looked goal _ (state_of c.args.shared.now) refl) ∙ ap (result_of goal) (grind arith)) c.parse_keyword_stmt.ensures.reads.reads;
+      (sym (looked goal _ (state_of c.args.shared.now) refl) ∙ ap (result_of goal) (grind arith)) c.parse_keyword_stmt.ensures.reads;
 }
