@@ -119,6 +119,7 @@ fn control(text: &str) -> Option<Token>
         "throw" => Token::Throw,
         "try" => Token::Try,
         "catch" => Token::Catch,
+        "defer" => Token::Defer,
         _ => return None,
     })
 }

@@ -99,6 +99,7 @@ is_keyword_sign token.Return = true
 is_keyword_sign token.Throw = true
 is_keyword_sign token.Try = true
 is_keyword_sign token.Catch = true
+is_keyword_sign token.Defer = true
 is_keyword_sign token.Import = true
 is_keyword_sign token.Export = true
 is_keyword_sign token.As = true

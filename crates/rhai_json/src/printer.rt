@@ -224,6 +224,7 @@ impl<'a> Printer<'a> {
             Stmt::Assignment { operands, .. } => self.push_pair(operands),
             Stmt::Expr(expr) => self.push_member("expr", Part::Expr(expr)),
             Stmt::Block(block) => self.push_member("block", Part::Block(block)),
+            Stmt::Defer(block, _) => self.push_member("body", Part::Block(block)),
             Stmt::BreakLoop { value, .. } | Stmt::Return { value, .. } => self.push_value(value),
             Stmt::Import { path, .. } => self.push_member("path", Part::Expr(path)),
             Stmt::Noop(_) | Stmt::Export { .. } | Stmt::Share(_, _) => Ok(()),

@@ -36,6 +36,7 @@ pub fn statement_kind(statement: &Stmt) -> &'static str
         Stmt::Expr(_) => "Expr",
         Stmt::Block(_) => "Block",
         Stmt::TryCatch(_, _) => "TryCatch",
+        Stmt::Defer(_, _) => "Defer",
         Stmt::BreakLoop { .. } => "BreakLoop",
         Stmt::Return { .. } => "Return",
         Stmt::Import { .. } => "Import",
@@ -139,6 +140,7 @@ pub fn put_statement_fields(out: &mut Out, statement: &Stmt) -> Result<(), Alloc
         | Stmt::While(_, _)
         | Stmt::Expr(_)
         | Stmt::Block(_)
-        | Stmt::TryCatch(_, _) => Ok(()),
+        | Stmt::TryCatch(_, _)
+        | Stmt::Defer(_, _) => Ok(()),
     }
 }

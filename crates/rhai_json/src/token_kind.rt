@@ -93,6 +93,7 @@ pub fn token_kind(token: &Token) -> &'static str
         Token::Throw => "Throw",
         Token::Try => "Try",
         Token::Catch => "Catch",
+        Token::Defer => "Defer",
         Token::Import => "Import",
         Token::Export => "Export",
         Token::As => "As",

@@ -167,6 +167,7 @@ fn is_keyword(token: &Token) -> bool
             | Token::Throw
             | Token::Try
             | Token::Catch
+            | Token::Defer
             | Token::Import
             | Token::Export
             | Token::As

@@ -98,6 +98,7 @@ impl Stmt {
             Stmt::Expr(expr) => expr.position(),
             Stmt::Block(block) => block.start,
             Stmt::TryCatch(_, pos) => *pos,
+            Stmt::Defer(_, pos) => *pos,
             Stmt::BreakLoop { pos, .. } => *pos,
             Stmt::Return { pos, .. } => *pos,
             Stmt::Import { pos, .. } => *pos,

@@ -127,6 +127,8 @@ pub enum Stmt {
     Block(StmtBlock),
     /// `try`
     TryCatch(Box<FlowControl>, Position),
+    /// `defer`
+    Defer(Box<StmtBlock>, Position),
     /// `break` or `continue`
     BreakLoop {
         value: Option<Box<Expr>>,

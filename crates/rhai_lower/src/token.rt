@@ -237,6 +237,8 @@ pub enum Token {
     Try,
     /// `catch`
     Catch,
+    /// `defer`
+    Defer,
     /// `import`
     Import,
     /// `export`
@@ -382,6 +384,7 @@ impl Token {
             Token::Throw => "throw",
             Token::Try => "try",
             Token::Catch => "catch",
+            Token::Defer => "defer",
             Token::Import => "import",
             Token::Export => "export",
             Token::As => "as",

@@ -42,6 +42,7 @@ construct c w at kind.Loop p = (p, omega (arith, in_loops c), λ b. tt)
 construct c w at kind.Do p = (p, omega (arith, in_loops c), λ b. (tt, omega arith, λ n. (p, omega arith, λ x. tt)))
 construct c w at kind.For p = (tt, omega arith, λ ns. (p, omega arith, λ x. (p, omega (arith, in_loops c), λ b. tt)))
 construct c w at kind.Try p = (p, omega arith, λ b. (tt, omega arith, λ n. (p, omega arith, λ x. tt)))
+construct c w at kind.Defer p = (p, omega arith, λ b. tt)
 
 pub export : (c : Context) (w : Live) (at : Position) (v : Option Bool) → Limits c
     → HoldsIn (room c + 0) (P.export_by c w at v)

@@ -90,6 +90,7 @@ construct c w at kind.For n = λ ns m i x o h b q k.
     ((h, subst (λ ms. WellNumberedBlock ms b) (N.looped ns.0 ns.1 w) k), refl)
 construct c w at kind.Try n = λ b m h name o i handler q k.
     ((h, catches name, subst (λ ms. WellNumberedBlock ms handler) (handled name w) k), refl)
+construct c w at kind.Defer n = λ b m h. (h, refl)
 
 pub operand : (c : Context) (w : Live) (v : Beginning) (n : Lexeme) → KeepsIn (WellNumbered (names w))
     (P.operand_by c w v) n

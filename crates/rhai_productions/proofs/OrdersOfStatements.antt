@@ -49,6 +49,7 @@ module _ (limit : ℕ) where
   construct c w at kind.Do b l i o = (b, o, i, λ x m r o. (b, o, tt, λ x m r o. (b, o, i, λ x m r o. (tt, o))))
   construct c w at kind.For b l i o = (b, o, tt, λ x m r o. (b, o, i, λ x m r o. (b, o, i, λ x m r o. (tt, o))))
   construct c w at kind.Try b l i o = (b, o, i, λ x m r o. (b, o, tt, λ x m r o. (b, o, i, λ x m r o. (tt, o))))
+  construct c w at kind.Defer b l i o = (b, o, i, λ x m r o. (tt, o))
 
   pub export : (c : Context) (w : Live) (at : Position) (v : Option Bool) (b : ℕ) (l : Library) → Fits limit b c
       → Kept limit b l → OrdersIn limit b (P.export_by c w at v) l

@@ -129,6 +129,7 @@ construct c w at kind.Loop o = (in_loop c o, λ b. tt)
 construct c w at kind.Do o = (in_loop c o, λ b. (tt, λ n. (o, λ x. tt)))
 construct c w at kind.For o = (tt, λ ns. (o, λ x. (in_loop c o, λ b. tt)))
 construct c w at kind.Try o = (o, λ b. (tt, λ n. (o, λ h. tt)))
+construct c w at kind.Defer o = (o, λ b. tt)
 
 operand : (c : Context) (w : Live) (v : Beginning) → Off c → Quiet Outside (P.operand_by c w v)
 operand c w begin.Sign o = λ l at. (o, λ x. tt)

@@ -45,6 +45,7 @@ module _ (G : Position → Type 0) where
   construct c w at kind.Do g = (g, λ b h. (tt, λ n k. (tt, λ x j. g)))
   construct c w at kind.For g = (tt, λ ns h. (tt, λ x k. (g, λ b j. g)))
   construct c w at kind.Try g = (g, λ b h. (tt, λ n k. (g, λ x j. g)))
+  construct c w at kind.Defer g = (g, λ b h. g)
 
   pub export : (c : Context) (w : Live) (at : Position) (v : Option Bool) → G at
       → AllowsAs G (λ f. BlockAt G f.0) (P.export_by c w at v)

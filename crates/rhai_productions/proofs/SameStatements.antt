@@ -63,6 +63,7 @@ same_construct c w at kind.Loop = refl
 same_construct c w at kind.Do = refl
 same_construct c w at kind.For = refl
 same_construct c w at kind.Try = refl
+same_construct c w at kind.Defer = refl
 
 pub same_guard : (c : Context) (w : Live) → run (P.guard c w) ≡ body (R.Guard c w)
 same_guard c w = λ i. Peek (λ l at. if is_due due_token.LeftBrace l then Fail (refusal guard_expected at)

@@ -91,6 +91,7 @@ construct c w at pos kind.Try = (
     ),
   ),
 )
+construct c w at pos kind.Defer = (braced_blocks refl, λ a b d. cc)
 
 pub operand : (c : Context) (w : Live) (v : Beginning) → LikeIn OnNodes (P.operand_by c w v) (P.operand_by c w v)
 operand c w begin.Sign = λ l at pos. (operands, λ x y e. signed_so l at pos x y e)

@@ -63,6 +63,7 @@ construct c w at kind.Loop = λ b. tt
 construct c w at kind.Do = λ b n x. tt
 construct c w at kind.For = λ ns x b. tt
 construct c w at kind.Try = λ b n h. tt
+construct c w at kind.Defer = λ b. tt
 
 operand : (c : Context) (w : Live) (v : Beginning) → Tidy (P.operand_by c w v)
 operand c w begin.Sign = λ l at. (refl, λ x. (refl, tt))

@@ -115,6 +115,7 @@ construct c w at kind.Loop n = λ b m us h. h
 construct c w at kind.Do n = λ b m us h negated o vs j x q ts k. on (on h (still j)) (prepended k)
 construct c w at kind.For n = λ ns m us i x o vs h b q ts k. both (after i h) k
 construct c w at kind.Try n = λ b m us h name o vs i handler q ts k. both (on h (still i)) k
+construct c w at kind.Defer n = λ b m us h. h
 
 pub do_end : (v : Option Bool) (n : Lexeme) → KeepsIn R.DoEnd (λ x us. Only [] us) (P.do_end_by v) n [] []
 do_end None n = tt

@@ -27,6 +27,8 @@ pub ruleset parse_for = (readers, nested_so, step_construct)
 
 pub ruleset parse_try = (readers, nested_so, step_construct)
 
+pub ruleset parse_defer = (readers, nested_so, step_construct)
+
 pub ruleset parse_switch = (readers, nested_so, step_construct)
 
 pub ruleset parse_arms = (readers, nested_so, step_arms)

@@ -1,9 +1,9 @@
-//! Readers of conditions, loops, and `try`.
+//! Readers of conditions, loops, `try` and `defer`.
 
 pub(crate) mod control;
 
 ghost use Rattle.rhai_lower.specs.View.{block_view, statement_view, view};
-ghost use Rattle.rhai_grammar.specs.declared.role.Construct.TheVariants.{Do, For, Loop, Try, While};
+ghost use Rattle.rhai_grammar.specs.declared.role.Construct.TheVariants.{Defer, Do, For, Loop, Try, While};
 ghost use Rattle.rhai_readers.specs.Readers.{Covers, ReadsAs, braced, branch, conditional, construct};
 ghost use Rattle.rhai_readers.specs.Readers.{guard, iterated};
 
@@ -18,7 +18,7 @@ use rhai_leaves::due::pass_token;
 use rhai_lower::{Expr, Position, Stmt, StmtBlock};
 use rhai_readers::{LentReaders, Shared, nested};
 use rhai_trees::{
-    make_block_statement, make_do, make_for, make_if, make_try, make_while, no_block,
+    make_block_statement, make_defer, make_do, make_for, make_if, make_try, make_while, no_block,
 };
 
 impl<R: LentReaders> Reader<'_, R> {
@@ -47,6 +47,7 @@ impl<R: LentReaders> Reader<'_, R> {
             Construct::Do => self.parse_do(shared, frame, settings),
             Construct::For => self.parse_for(shared, frame, settings),
             Construct::Try => self.parse_try(shared, frame, settings),
+            Construct::Defer => self.parse_defer(shared, frame, settings),
             Construct::Switch => self.parse_switch(shared, frame, settings),
         }
     }
@@ -267,5 +268,22 @@ impl<R: LentReaders> Reader<'_, R> {
         let inner = catch_frame(self.engine.alloc(), frame, &name)?;
         let handler = nested!(shared, self.parse_braces(shared, &inner, settings))?;
         Ok(make_try(self.engine.alloc(), body, name, handler, settings.pos)?)
+    }
+
+    /// Reads a `defer` after its keyword, where the settings stand.
+    #[tactic(auto, using(crate::proofs::ConstructReaders::parse_defer))]
+    fn parse_defer(
+        &self,
+        shared: &mut Shared<'_>,
+        frame: &Frame<'_>,
+        settings: ParseSettings,
+    ) -> ParseResult<Stmt>
+        requires lent { Covers (R.lent self.now.readers) (construct Defer self.now.engine.now frame.now settings)
+            shared.old }
+        ensures { ReadsAs self.now.engine.now frame.now settings 4 (construct Defer) statement_view shared.old result
+            shared.new }
+    {
+        let body = nested!(shared, self.parse_braces(shared, frame, settings))?;
+        Ok(make_defer(self.engine.alloc(), body, settings.pos)?)
     }
 }

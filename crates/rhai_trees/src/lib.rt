@@ -16,7 +16,7 @@ pub mod strings;
 pub mod target;
 
 pub use chain::{indexed_operand, test_index, test_links};
-pub use construct::{make_do, make_for, make_if, make_try, make_while};
+pub use construct::{make_defer, make_do, make_for, make_if, make_try, make_while};
 pub use guard::{test_guard, test_iterated};
 pub use kind::{index_fault, is_constant, not_boolean, not_iterable};
 pub use link::{Chain, Link, LinkKind};

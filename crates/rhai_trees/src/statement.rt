@@ -31,7 +31,8 @@ pub fn ends_itself(statement: &Stmt) -> bool
         | Stmt::While(_, _)
         | Stmt::For(_, _)
         | Stmt::Block(_)
-        | Stmt::TryCatch(_, _) => true,
+        | Stmt::TryCatch(_, _)
+        | Stmt::Defer(_, _) => true,
         _ => false,
     }
 }

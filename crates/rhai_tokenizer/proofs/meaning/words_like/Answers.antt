@@ -5,7 +5,7 @@ use Rattle.rhai_tokenizer.proofs.meaning.words_like.Goals as goal
 
 pub slice_bounds-result-end : goal.slice_bounds-result-end
 slice_bounds-result-end c =
-    let w : get_or WORD_PLACES c.word_key.result 0 ≤ 63 = place_within c.word_key.result c.word_key.ensures.within in
+    let w : get_or WORD_PLACES c.word_key.result 0 ≤ 64 = place_within c.word_key.result c.word_key.ensures.within in
     rw c.word_places.ensures.value (omega (arith, w, c.words.ensures.len))
 
 pub returns : goal.returns
