@@ -1,5 +1,7 @@
 -- Statements by how often they are read.
 use Rattle.std.specs.Prelude.{◌≡◌, Bool, true, false, refl}
+use Rattle.rhai_grammar.specs.declared.role.Construct.{Construct}
+use Rattle.rhai_grammar.specs.declared.role.Construct.TheVariants as construct
 use Rattle.rhai_grammar.specs.declared.role.StatementStart.{StatementStart}
 use Rattle.rhai_grammar.specs.declared.role.StatementStart.TheVariants as start
 
@@ -20,6 +22,11 @@ is_rare start.Throw = false
 is_rare start.Break = false
 is_rare start.Continue = false
 is_rare _ = true
+
+-- a block, which begins with no keyword
+abbrev pub is_block : Construct → Bool
+is_block construct.Block = true
+is_block _ = false
 
 example : (is_rare start.Let ≡ true) × (is_rare start.Return ≡ false) × (is_jump start.Return ≡ true)
 example = (refl, refl, refl)

@@ -2,10 +2,12 @@
 
 pub(crate) mod control;
 
+ghost use Rattle.std.specs.Prelude.{◌≡◌, false};
 ghost use Rattle.rhai_lower.specs.View.{block_view, statement_view, view};
 ghost use Rattle.rhai_grammar.specs.declared.role.Construct.TheVariants.{Do, For, Loop, Try, While};
-ghost use Rattle.rhai_readers.specs.Readers.{Covers, ReadsAs, braced, branch, conditional, construct};
-ghost use Rattle.rhai_readers.specs.Readers.{guard, iterated};
+ghost use Rattle.rhai_readers.specs.Readers.{Covers, NestsAs, ReadsAs, braced, branch, conditional};
+ghost use Rattle.rhai_readers.specs.Readers.{construct, guard, iterated};
+ghost use Rattle.rhai_statements.specs.RareStatements.{is_block};
 
 use crate::construct::control::{catch_frame, end_guard, end_iterated, loop_frame};
 use crate::reader::Reader;
@@ -22,7 +24,7 @@ use rhai_trees::{
 };
 
 impl<R: LentReaders> Reader<'_, R> {
-    /// Reads a construct of this kind after its first token, where the settings stand.
+    /// Reads a construct of this kind after its first token, where the settings stand, as a reader that counts.
     #[tactic(auto, using(crate::proofs::ConstructReaders::parse_construct))]
     pub fn parse_construct(
         &self,
@@ -33,14 +35,43 @@ impl<R: LentReaders> Reader<'_, R> {
     ) -> ParseResult<Stmt>
         requires lent { Covers (R.lent self.now.readers) (construct kind self.now.engine.now frame.now settings)
             shared.old }
-        ensures { ReadsAs self.now.engine.now frame.now settings 4 (construct kind) statement_view shared.old result
+        ensures { NestsAs self.now.engine.now frame.now settings 5 (construct kind) statement_view shared.old result
             shared.new }
     {
         match kind {
             Construct::Block => {
-                let block = nested!(shared, self.parse_block(shared, frame, settings))?;
+                let block = nested!(
+                    shared,
+                    nested!(shared, self.parse_block(shared, frame, settings))
+                )?;
                 Ok(make_block_statement(block))
             }
+            _ => nested!(
+                shared,
+                self.parse_keyword_construct(shared, frame, settings, kind)
+            ),
+        }
+    }
+
+    // Reads a construct after its keyword. It is apart, since most constructs are blocks, and a function clears all its
+    // locals when it begins.
+    #[inline(never)]
+    #[tactic(auto, using(crate::proofs::ConstructReaders::parse_construct))]
+    fn parse_keyword_construct(
+        &self,
+        shared: &mut Shared<'_>,
+        frame: &Frame<'_>,
+        settings: ParseSettings,
+        kind: Construct,
+    ) -> ParseResult<Stmt>
+        requires keyword { is_block kind ≡ false }
+        requires lent { Covers (R.lent self.now.readers) (construct kind self.now.engine.now frame.now settings)
+            shared.old }
+        ensures { ReadsAs self.now.engine.now frame.now settings 4 (construct kind) statement_view shared.old result
+            shared.new }
+    {
+        match kind {
+            Construct::Block => unreachable!(),
             Construct::If => nested!(shared, self.parse_if(shared, frame, settings)),
             Construct::While => self.parse_while(shared, frame, settings),
             Construct::Loop => self.parse_loop(shared, frame, settings),

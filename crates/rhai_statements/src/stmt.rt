@@ -9,6 +9,7 @@ ghost use Rattle.rhai_lower.specs.View.{statement_view, view};
 ghost use Rattle.rhai_readers.specs.Readers.{Covers, ReadsAs, definition, expr_statement, initializer};
 ghost use Rattle.rhai_readers.specs.Readers.{statement};
 ghost use Rattle.rhai_readers.specs.Readers.{exported, imported};
+ghost use Rattle.rhai_grammar.specs.Contexts.{has_single_blocks};
 ghost use Rattle.rhai_grammar.specs.Statements.{ends_itself, statement_start};
 ghost use Rattle.rhai_readers.specs.Frames.{context_of};
 ghost use Rattle.rhai_statements.specs.RareStatements.{is_jump, is_rare};
@@ -96,7 +97,7 @@ impl<R: LentReaders> Reader<'_, R> {
                 let settings = settings.at(*pos);
                 skip(shared.input);
                 let deeper = settings.level_up()?.level_up()?;
-                nested!(shared, self.parse_construct(shared, frame, deeper, kind))
+                self.parse_construct(shared, frame, deeper, kind)
             }
             StatementStart::Return
             | StatementStart::Throw
@@ -338,12 +339,29 @@ impl<R: LentReaders> Reader<'_, R> {
         ensures { ReadsAs self.now.engine.now frame.now settings 2 inside statements_of shared.old result shared.new }
     {
         if settings.has_flag(ParseSettingFlags::DISALLOW_STATEMENTS_IN_BLOCKS) {
-            let statement = nested!(shared, self.parse_expr_stmt(shared, frame, settings))?;
-            return Ok(vec![in self.engine.alloc(); statement]?);
+            return self.parse_single(shared, frame, settings);
         }
         let mut inner = frame.inner(self.engine.alloc());
         let settings = settings.below_global_level();
         self.parse_statements(shared, &mut inner, settings, Closing::Brace)
+    }
+
+    // Reads the one expression of a block where blocks are single expressions. It is apart, since a function clears all
+    // its locals when it begins.
+    #[inline(never)]
+    #[tactic(auto, using(crate::proofs::StmtReaders::parse_block_inside))]
+    fn parse_single(
+        &self,
+        shared: &mut Shared<'_>,
+        frame: &Frame<'_>,
+        settings: ParseSettings,
+    ) -> ParseResult<Vec<Stmt>>
+        requires single { has_single_blocks (context_of self.now.engine.now frame.now settings) ≡ true }
+        requires lent { Covers (R.lent self.now.readers) (inside self.now.engine.now frame.now settings) shared.old }
+        ensures { ReadsAs self.now.engine.now frame.now settings 2 inside statements_of shared.old result shared.new }
+    {
+        let statement = nested!(shared, self.parse_expr_stmt(shared, frame, settings))?;
+        Ok(vec![in self.engine.alloc(); statement]?)
     }
 
     /// Reads what follows `return`, `throw` or `break`, where the settings stand: a value, exactly where the next token
