@@ -182,7 +182,7 @@ impl<R: LentReaders> Reader<'_, R> {
     }
 
     /// Reads a `while` after its keyword, where the settings stand.
-    #[tactic(auto, using(crate::proofs::ConstructReaders::parse_while))]
+    #[tactic(auto, using(crate::proofs::ConstructReaders::parse_construct))]
     fn parse_while(
         &self,
         shared: &mut Shared<'_>,
@@ -228,7 +228,7 @@ impl<R: LentReaders> Reader<'_, R> {
     }
 
     /// Reads a `do` after its keyword, where the settings stand. Its guard is not in the loop.
-    #[tactic(auto, using(crate::proofs::ConstructReaders::parse_do))]
+    #[tactic(auto, using(crate::proofs::ConstructReaders::parse_construct))]
     fn parse_do(
         &self,
         shared: &mut Shared<'_>,
@@ -250,7 +250,7 @@ impl<R: LentReaders> Reader<'_, R> {
     }
 
     /// Reads a `for` after its keyword, where the settings stand. Its variables are live in its block alone.
-    #[tactic(auto, using(crate::proofs::ConstructReaders::parse_for))]
+    #[tactic(auto, using(crate::proofs::ConstructReaders::parse_construct))]
     fn parse_for(
         &self,
         shared: &mut Shared<'_>,
@@ -281,7 +281,7 @@ impl<R: LentReaders> Reader<'_, R> {
 
     /// Reads a `try` after its keyword, where the settings stand. The variable of its `catch` is live in the block of
     /// that alone.
-    #[tactic(auto, using(crate::proofs::ConstructReaders::parse_try))]
+    #[tactic(auto, using(crate::proofs::ConstructReaders::parse_construct))]
     fn parse_try(
         &self,
         shared: &mut Shared<'_>,
