@@ -4,7 +4,7 @@ pub(crate) mod control;
 
 ghost use Rattle.std.specs.Prelude.{◌≡◌, false};
 ghost use Rattle.rhai_lower.specs.View.{block_view, statement_view, view};
-ghost use Rattle.rhai_grammar.specs.declared.role.Construct.TheVariants.{Do, For, Loop, Try, While};
+ghost use Rattle.rhai_grammar.specs.declared.role.Construct.TheVariants.{Block, Do, For, Loop, Try, While};
 ghost use Rattle.rhai_readers.specs.Readers.{Covers, NestsAs, ReadsAs, braced, branch, conditional};
 ghost use Rattle.rhai_readers.specs.Readers.{construct, guard, iterated};
 ghost use Rattle.rhai_statements.specs.RareStatements.{is_block};
@@ -25,6 +25,7 @@ use rhai_trees::{
 
 impl<R: LentReaders> Reader<'_, R> {
     /// Reads a construct of this kind after its first token, where the settings stand, as a reader that counts.
+    #[inline(always)]
     #[tactic(auto, using(crate::proofs::ConstructReaders::parse_construct))]
     pub fn parse_construct(
         &self,
@@ -39,25 +40,59 @@ impl<R: LentReaders> Reader<'_, R> {
             shared.new }
     {
         match kind {
-            Construct::Block => {
-                let block = nested!(
-                    shared,
-                    nested!(shared, self.parse_block(shared, frame, settings))
-                )?;
-                Ok(make_block_statement(block))
-            }
-            _ => nested!(
-                shared,
-                self.parse_keyword_construct(shared, frame, settings, kind)
-            ),
+            Construct::Block => self.parse_block_statement(shared, frame, settings),
+            _ => self.parse_keyword_construct(shared, frame, settings, kind),
         }
     }
 
-    // Reads a construct after its keyword. It is apart, since most constructs are blocks, and a function clears all its
-    // locals when it begins.
+    // Reads a block as a statement, as a reader that counts. It is apart from other constructs, since most are blocks,
+    // and a function clears all its locals when it begins.
+    #[inline(never)]
+    #[tactic(auto, using(crate::proofs::ConstructReaders::parse_construct))]
+    fn parse_block_statement(
+        &self,
+        shared: &mut Shared<'_>,
+        frame: &Frame<'_>,
+        settings: ParseSettings,
+    ) -> ParseResult<Stmt>
+        requires lent { Covers (R.lent self.now.readers) (construct Block self.now.engine.now frame.now settings)
+            shared.old }
+        ensures { NestsAs self.now.engine.now frame.now settings 5 (construct Block) statement_view shared.old result
+            shared.new }
+    {
+        let block = nested!(
+            shared,
+            nested!(shared, self.parse_block(shared, frame, settings))
+        )?;
+        Ok(make_block_statement(block))
+    }
+
+    // Reads a construct after its keyword, as a reader that counts.
     #[inline(never)]
     #[tactic(auto, using(crate::proofs::ConstructReaders::parse_construct))]
     fn parse_keyword_construct(
+        &self,
+        shared: &mut Shared<'_>,
+        frame: &Frame<'_>,
+        settings: ParseSettings,
+        kind: Construct,
+    ) -> ParseResult<Stmt>
+        requires keyword { is_block kind ≡ false }
+        requires lent { Covers (R.lent self.now.readers) (construct kind self.now.engine.now frame.now settings)
+            shared.old }
+        ensures { NestsAs self.now.engine.now frame.now settings 5 (construct kind) statement_view shared.old result
+            shared.new }
+    {
+        nested!(
+            shared,
+            self.parse_after_keyword(shared, frame, settings, kind)
+        )
+    }
+
+    // Reads a construct after its keyword.
+    #[inline(always)]
+    #[tactic(auto, using(crate::proofs::ConstructReaders::parse_construct))]
+    fn parse_after_keyword(
         &self,
         shared: &mut Shared<'_>,
         frame: &Frame<'_>,

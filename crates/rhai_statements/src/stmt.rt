@@ -10,11 +10,10 @@ ghost use Rattle.rhai_readers.specs.Readers.{Covers, ReadsAs, definition, expr_s
 ghost use Rattle.rhai_readers.specs.Readers.{statement};
 ghost use Rattle.rhai_readers.specs.Readers.{exported, imported};
 ghost use Rattle.rhai_grammar.specs.Contexts.{has_single_blocks};
-ghost use Rattle.rhai_grammar.specs.Statements.{ends_itself, statement_start};
+ghost use Rattle.rhai_grammar.specs.Statements.{ends_itself};
 ghost use Rattle.rhai_readers.specs.Frames.{context_of};
-ghost use Rattle.rhai_statements.specs.RareStatements.{is_jump, is_rare};
+ghost use Rattle.rhai_statements.specs.RareStatements.{Starts, is_jump, is_rare};
 ghost use Rattle.rhai_statements.specs.Statements.{ReadsStatement};
-ghost use Rattle.rhai_reading.specs.Running.{next_item};
 ghost use Rattle.rhai_base.specs.Frames.{SameSurroundings};
 ghost use Rattle.rhai_readers.specs.Readers.{inside, jump, state_of, statements, statements_of, with_live};
 ghost use Rattle.rhai_trees.specs.Statements.{optional_view};
@@ -88,13 +87,15 @@ impl<R: LentReaders> Reader<'_, R> {
         ensures { ReadsStatement self.now.engine.now frame.old frame.new settings shared.old result shared.new }
     {
         let (token, pos) = peek(shared.input)?;
-        match what_starts(self.engine.allow_looping(), token) {
+        let pos = *pos;
+        let start = what_starts(self.engine.allow_looping(), token);
+        match start {
             StatementStart::Expression => {
-                let deeper = settings.at(*pos).level_up()?;
+                let deeper = settings.at(pos).level_up()?;
                 nested!(shared, self.parse_expr_stmt(shared, frame, deeper))
             }
             StatementStart::Construct(kind) => {
-                let settings = settings.at(*pos);
+                let settings = settings.at(pos);
                 skip(shared.input);
                 let deeper = settings.level_up()?.level_up()?;
                 self.parse_construct(shared, frame, deeper, kind)
@@ -102,12 +103,14 @@ impl<R: LentReaders> Reader<'_, R> {
             StatementStart::Return
             | StatementStart::Throw
             | StatementStart::Break
-            | StatementStart::Continue => self.parse_jump_stmt(shared, frame, settings),
-            _ => self.parse_keyword_stmt(shared, frame, settings),
+            | StatementStart::Continue => {
+                self.parse_jump_stmt(shared, frame, settings, start, pos)
+            }
+            _ => self.parse_keyword_stmt(shared, frame, settings, start, pos),
         }
     }
 
-    // Reads a `return`, `throw`, `break` or `continue`.
+    // Reads a `return`, `throw`, `break` or `continue`, whichever begins at the next token, which is at `pos`.
     #[inline(always)]
     #[tactic(auto, using(crate::proofs::StmtReaders::parse_stmt))]
     fn parse_jump_stmt(
@@ -115,15 +118,15 @@ impl<R: LentReaders> Reader<'_, R> {
         shared: &mut Shared<'_>,
         frame: &Frame<'_>,
         settings: ParseSettings,
+        start: StatementStart,
+        pos: Position,
     ) -> ParseResult<Stmt>
-        requires jump { is_jump (statement_start (context_of self.now.engine.now frame.now settings)
-            (next_item (state_of shared.old)).lexeme) ≡ true }
+        requires jump { Starts is_jump self.now.engine.now frame.now settings start pos (state_of shared.old) }
         requires lent { Covers (R.lent self.now.readers) (statement self.now.engine.now frame.now settings) shared.old }
         ensures { ReadsStatement self.now.engine.now frame.now frame.now settings shared.old result shared.new }
     {
-        let (token, pos) = peek(shared.input)?;
-        let settings = settings.at(*pos);
-        match what_starts(self.engine.allow_looping(), token) {
+        let settings = settings.at(pos);
+        match start {
             StatementStart::Return => {
                 skip(shared.input);
                 let value = nested!(shared, self.parse_jump(shared, frame, settings))?;
@@ -149,7 +152,8 @@ impl<R: LentReaders> Reader<'_, R> {
         }
     }
 
-    // Reads a statement that is neither an expression nor a construct nor a jump.
+    // Reads a statement that is neither an expression nor a construct nor a jump, whichever begins at the next token,
+    // which is at `pos`.
     #[inline(always)]
     #[tactic(auto, using(crate::proofs::StmtReaders::parse_stmt))]
     fn parse_keyword_stmt(
@@ -157,15 +161,15 @@ impl<R: LentReaders> Reader<'_, R> {
         shared: &mut Shared<'_>,
         frame: &mut Frame<'_>,
         settings: ParseSettings,
+        start: StatementStart,
+        pos: Position,
     ) -> ParseResult<Stmt>
-        requires keyword { is_rare (statement_start (context_of self.now.engine.now frame.old settings)
-            (next_item (state_of shared.old)).lexeme) ≡ true }
+        requires keyword { Starts is_rare self.now.engine.now frame.old settings start pos (state_of shared.old) }
         requires lent { Covers (R.lent self.now.readers) (statement self.now.engine.now frame.old settings) shared.old }
         ensures { ReadsStatement self.now.engine.now frame.old frame.new settings shared.old result shared.new }
     {
-        let (token, pos) = peek(shared.input)?;
-        let settings = settings.at(*pos);
-        match what_starts(self.engine.allow_looping(), token) {
+        let settings = settings.at(pos);
+        match start {
             StatementStart::Empty => {
                 skip(shared.input);
                 Ok(Stmt::Noop(settings.pos))
