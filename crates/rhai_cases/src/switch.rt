@@ -1,6 +1,6 @@
 //! The arms of a `switch` as they are read, and its node. The tests of cases are here too.
 
-ghost use Rattle.std.specs.Prelude.{◌≡◌, ◌++◌, IfErr, IfOk, None, OnOk, Some, false, true};
+ghost use Rattle.std.specs.Prelude.{◌≡◌, ◌++◌, IfErr, IfOk, IsErr, None, OnOk, Some, false, true};
 ghost use Rattle.rhai_lower.specs.View.{case_views, statement_view, view, views};
 ghost use Rattle.rhai_grammar.specs.CaseValues.{range_of};
 ghost use Rattle.rhai_grammar.specs.Causes.{MemoryIsNowhere, is_for_memory, refusal_of};
@@ -138,18 +138,27 @@ pub fn test_cases(alloc: Global, arms: &Arms, cases: &[Expr]) -> ParseResult<()>
 
 // ---- one more arm
 
+// The error of a value for which there is no memory. The value is dropped here, since a derived drop is expanded
+// wherever a value may be dropped, and a function clears all its locals when it begins.
+#[inline(never)]
+fn without(_value: Expr, error: AllocError) -> Result<(), AllocError>
+    ensures { IsErr result }
+{
+    Err(error)
+}
+
 // Makes the value of the case at `place`, to which this one is equal, lead to one more arm, after those before.
 // That is rare, so it is kept out of the loop over cases.
 #[inline(never)]
 fn push_index(
     cases: &mut Vec<SwitchCase>,
     place: usize,
-    value: &Expr,
+    value: Expr,
     index: usize,
 ) -> Result<(), AllocError>
-    requires { case_number (case_views cases.old.items) (view value.now) ≡ Some place }
+    requires { case_number (case_views cases.old.items) (view value) ≡ Some place }
     ensures { OnOk result
-        (case_views cases.new.items ≡ with_value (case_views cases.old.items) (view value.now) index) }
+        (case_views cases.new.items ≡ with_value (case_views cases.old.items) (view value) index) }
 {
     cases[place].indices.push(index)?;
     Ok(())
@@ -190,11 +199,11 @@ fn push_keyed(
         (case_views cases.new.items ≡ with_value (case_views cases.old.items) (view value) index) }
     ensures indexed { OnOk result (Keyed keys.new.keys (case_views cases.new.items)) }
 {
-    match add_key(keys, key)? {
-        Some(place) => push_index(cases, place, &value, index)?,
-        None => push_new_value(alloc, cases, value, index)?,
+    match add_key(keys, key) {
+        Ok(Some(place)) => push_index(cases, place, value, index),
+        Ok(None) => push_new_value(alloc, cases, value, index),
+        Err(error) => without(value, error),
     }
-    Ok(())
 }
 
 // The same of a value that has no key of its own. That is rare, so it is kept out of the loop over cases.
@@ -213,7 +222,7 @@ fn push_parts(
     ensures indexed { OnOk result (Keyed keys.new.keys (case_views cases.new.items)) }
 {
     match find_parts(alloc, cases, keys, &value)? {
-        CaseNumber::At(place) => push_index(cases, place, &value, index),
+        CaseNumber::At(place) => push_index(cases, place, value, index),
         CaseNumber::New(key) => push_keyed(alloc, cases, keys, value, key, index),
     }
 }
@@ -232,9 +241,10 @@ fn push_value(
         (case_views cases.new.items ≡ with_value (case_views cases.old.items) (view value) index) }
     ensures indexed { OnOk result (Keyed keys.new.keys (case_views cases.new.items)) }
 {
-    match key_of(&value)? {
-        Some(key) => push_keyed(alloc, cases, keys, value, key, index),
-        None => push_parts(alloc, cases, keys, value, index),
+    match key_of(&value) {
+        Ok(Some(key)) => push_keyed(alloc, cases, keys, value, key, index),
+        Ok(None) => push_parts(alloc, cases, keys, value, index),
+        Err(error) => without(value, error),
     }
 }
 
@@ -271,8 +281,10 @@ fn push_case(
     ensures pushed { OnOk result (collected_view arms.new ≡ with_case index (collected_view arms.old) (view case)) }
     ensures indexed { OnOk result (Keyed keys.new.keys (collected_view arms.new).cases) }
 {
-    push_range(&mut arms.ranges, &case, index)?;
-    push_value(alloc, &mut arms.cases, keys, case, index)
+    match push_range(&mut arms.ranges, &case, index) {
+        Ok(()) => push_value(alloc, &mut arms.cases, keys, case, index),
+        Err(error) => without(case, error),
+    }
 }
 
 // Adds the cases of the arm with this index.

@@ -10,5 +10,6 @@ pub mod Operators
 pub mod Shown
 pub mod Statements
 pub mod Strings
+pub mod Takes
 pub mod Functions
 pub mod Leaves

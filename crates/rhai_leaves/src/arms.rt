@@ -1,6 +1,6 @@
 //! Where an arm of `switch` begins and ends, and what is refused there.
 
-ghost use Rattle.std.specs.Prelude.{◌≡◌, ◌+◌, ◌≤◌, IfErr, IfOk, OnOk, codes, false, true};
+ghost use Rattle.std.specs.Prelude.{◌≡◌, ◌≤◌, IfErr, OnOk, codes, false, true};
 ghost use Rattle.rhai_lower.specs.Lexemes.{lexeme};
 ghost use Rattle.rhai_grammar.specs.Beginnings.{missing};
 ghost use Rattle.rhai_grammar.specs.Causes.{MemoryIsNowhere, Says, UnexpectedEOF, WrongSwitchCaseCondition};
@@ -14,6 +14,7 @@ ghost use Rattle.rhai_grammar.specs.declared.due.DueToken.TheVariants.{If};
 ghost use Rattle.rhai_reading.specs.Reading.{ArmEnd, DefaultEnd};
 ghost use Rattle.rhai_leaves.specs.Arms.{BeginsArm, is_case, is_nothing};
 ghost use Rattle.rhai_leaves.specs.Leaves.{GivesAt};
+ghost use Rattle.rhai_leaves.specs.Takes.{Takes, TakesIf};
 
 use crate::cursor::{peek, skip};
 use crate::due::is_due;
@@ -66,9 +67,7 @@ pub fn next_arm(alloc: Global, input: &mut TokenStream) -> ParseResult<NextArm>
     ensures begins { BeginsArm (cursor_of input.old) result (cursor_of input.new) }
     ensures nowhere { IfErr result MemoryIsNowhere }
     ensures more { OnOk result (is_end (next_item (cursor_of input.old)).lexeme ≡ false) }
-    ensures shorter { left (cursor_of input.new).tokens ≤ left (cursor_of input.old).tokens }
-    ensures shrinks { IfOk result (λ next. is_case next ≡ false
-        → left (cursor_of input.new).tokens + 1 ≤ left (cursor_of input.old).tokens) }
+    ensures takes { TakesIf (λ next. is_case next ≡ false) (cursor_of input.old) result (cursor_of input.new) }
 {
     let (token, pos) = peek(input)?;
     let pos = *pos;
@@ -158,8 +157,7 @@ pub fn arm_continues(alloc: Global, input: &mut TokenStream, itself: bool) -> Pa
 #[tactic(auto, using(rhai_reading::proofs::Steps::step_default_end))]
 pub fn default_ends(alloc: Global, input: &mut TokenStream, default: Position) -> ParseResult<()>
     ensures gives { GivesAt (DefaultEnd default) (λ u. tt) (cursor_of input.old) result (cursor_of input.new) }
-    ensures shorter { left (cursor_of input.new).tokens ≤ left (cursor_of input.old).tokens }
-    ensures shrinks { OnOk result (left (cursor_of input.new).tokens + 1 ≤ left (cursor_of input.old).tokens) }
+    ensures takes { Takes (cursor_of input.old) result (cursor_of input.new) }
 {
     let (token, pos) = peek(input)?;
     match arm_role(token) {

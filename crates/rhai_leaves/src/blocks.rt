@@ -1,13 +1,14 @@
 //! The `{` and the `}` of a block.
 
-ghost use Rattle.std.specs.Prelude.{◌+◌, ◌≤◌, OnOk};
+ghost use Rattle.std.specs.Prelude.{◌≤◌};
 ghost use Rattle.rhai_lower.specs.Nodes.{Statements, braces};
 ghost use Rattle.rhai_grammar.specs.Cursors.{cursor_of, left};
 ghost use Rattle.rhai_reading.specs.Reading.{BlockEnd, BlockStart};
 ghost use Rattle.rhai_leaves.specs.Leaves.{GivesAt};
+ghost use Rattle.rhai_leaves.specs.Takes.{Takes};
 
-use crate::cursor::peek;
-use crate::due::match_token;
+use crate::cursor::{peek, skip};
+use crate::due::{match_token, test_due};
 use rhai_grammar::{DueToken, ParseResult};
 use rhai_lower::{Position, TokenStream};
 use std::alloc::Global;
@@ -16,8 +17,7 @@ use std::alloc::Global;
 #[tactic(auto, using(rhai_reading::proofs::Steps::step_block_start))]
 pub fn begin_block(alloc: Global, input: &mut TokenStream, note: &str) -> ParseResult<Position>
     ensures gives { GivesAt BlockStart (λ p. p) (cursor_of input.old) result (cursor_of input.new) }
-    ensures shorter { left (cursor_of input.new).tokens ≤ left (cursor_of input.old).tokens }
-    ensures shrinks { OnOk result (left (cursor_of input.new).tokens + 1 ≤ left (cursor_of input.old).tokens) }
+    ensures takes { Takes (cursor_of input.old) result (cursor_of input.new) }
 {
     let (_, start) = peek(input)?;
     let start = *start;
@@ -33,8 +33,9 @@ pub fn end_block(alloc: Global, input: &mut TokenStream) -> ParseResult<Position
         (braces statements start) (cursor_of input.old) result (cursor_of input.new) }
     ensures shorter { left (cursor_of input.new).tokens ≤ left (cursor_of input.old).tokens }
 {
-    let (_, end) = peek(input)?;
-    let end = *end;
-    match_token(alloc, input, DueToken::RightBrace, "to end this block")?;
+    let (token, pos) = peek(input)?;
+    let end = *pos;
+    test_due(alloc, DueToken::RightBrace, "to end this block", token, end)?;
+    skip(input);
     Ok(end)
 }

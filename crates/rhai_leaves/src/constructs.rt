@@ -1,6 +1,6 @@
 //! Which constructs are statements; what begins and ends guards; ends of `do`. The variables of `for` are here too.
 
-ghost use Rattle.std.specs.Prelude.{◌≡◌, ◌+◌, ◌≤◌, IfErr, IfSome, OnOk, false, option_map, true};
+ghost use Rattle.std.specs.Prelude.{◌≡◌, ◌≤◌, IfErr, IfSome, OnOk, false, option_map, true};
 ghost use Rattle.std.specs.Rc.{rc_str_bytes};
 ghost use Rattle.rhai_lower.specs.Lexemes.{lexeme};
 ghost use Rattle.rhai_lower.specs.Texts.{same_text};
@@ -14,6 +14,7 @@ ghost use Rattle.rhai_grammar.specs.declared.due.DueToken.TheVariants.{Equals, L
 ghost use Rattle.rhai_reading.specs.Reading.{Catch, DoEnd, LoopNames as loop_names};
 ghost use Rattle.rhai_leaves.specs.Constructs.{loop_view};
 ghost use Rattle.rhai_leaves.specs.Leaves.{GivesAt, name_view};
+ghost use Rattle.rhai_leaves.specs.Takes.{Takes};
 
 use crate::cursor::{peek, skip};
 use crate::due::{is_due, match_token, pass_token};
@@ -97,8 +98,7 @@ fn do_end(token: &Token) -> Option<bool>
 #[tactic(auto, using(rhai_reading::proofs::Steps::step_do_end))]
 pub fn end_do(alloc: Global, input: &mut TokenStream) -> ParseResult<bool>
     ensures gives { GivesAt DoEnd (λ negated. negated) (cursor_of input.old) result (cursor_of input.new) }
-    ensures shorter { left (cursor_of input.new).tokens ≤ left (cursor_of input.old).tokens }
-    ensures shrinks { OnOk result (left (cursor_of input.new).tokens + 1 ≤ left (cursor_of input.old).tokens) }
+    ensures takes { Takes (cursor_of input.old) result (cursor_of input.new) }
 {
     let (token, pos) = peek(input)?;
     match do_end(token) {

@@ -1,14 +1,15 @@
 //! Peeking at tokens and taking them: `peek`, `take` and `skip`. A token that says that memory ran out is refused here,
 //! and nowhere else.
 
-ghost use Rattle.std.specs.Prelude.{◌≡◌, ◌+◌, ◌≤◌, false};
+ghost use Rattle.std.specs.Prelude.{◌≡◌, false};
 ghost use Rattle.std.specs.Borrow.{sem};
 ghost use Rattle.std.specs.Io.BufRead.{Rests};
 ghost use Rattle.rhai_lower.specs.contracts.stream.TokenStream.{the_row};
 ghost use Rattle.rhai_lower.specs.Lexemes.{lexeme};
-ghost use Rattle.rhai_grammar.specs.Delivered.{is_end, is_memory};
-ghost use Rattle.rhai_grammar.specs.Cursors.{next_item, cursor_of, item_of, left, after_peek, after_take};
+ghost use Rattle.rhai_grammar.specs.Delivered.{is_memory};
+ghost use Rattle.rhai_grammar.specs.Cursors.{next_item, cursor_of, item_of, after_peek, after_take};
 ghost use Rattle.rhai_leaves.specs.Shown.{Shows};
+ghost use Rattle.rhai_leaves.specs.Takes.{Advances};
 
 use rhai_lower::{LexError, Position, Token, TokenStream};
 use std::alloc::AllocError;
@@ -43,9 +44,7 @@ pub fn peek(input: &mut TokenStream) -> Result<&(Token, Position), AllocError>
 pub fn take(input: &mut TokenStream) -> (Token, Position)
     ensures value { item_of result ≡ next_item (cursor_of input.old) }
     ensures after { cursor_of input.new ≡ after_take (cursor_of input.old) }
-    ensures shorter { left (cursor_of input.new).tokens ≤ left (cursor_of input.old).tokens }
-    ensures shrinks { is_end (next_item (cursor_of input.old)).lexeme ≡ false
-        → left (cursor_of input.new).tokens + 1 ≤ left (cursor_of input.old).tokens }
+    ensures advances { Advances (cursor_of input.old) (cursor_of input.new) }
 {
     input.next()
 }
@@ -54,9 +53,7 @@ pub fn take(input: &mut TokenStream) -> (Token, Position)
 #[tactic(auto, using(rhai_grammar::proofs::CursorLemmas::taken))]
 pub fn skip(input: &mut TokenStream)
     ensures after { cursor_of input.new ≡ after_take (cursor_of input.old) }
-    ensures shorter { left (cursor_of input.new).tokens ≤ left (cursor_of input.old).tokens }
-    ensures shrinks { is_end (next_item (cursor_of input.old)).lexeme ≡ false
-        → left (cursor_of input.new).tokens + 1 ≤ left (cursor_of input.old).tokens }
+    ensures advances { Advances (cursor_of input.old) (cursor_of input.new) }
 {
     input.skip();
 }

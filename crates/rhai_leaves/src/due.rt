@@ -1,17 +1,18 @@
 //! `match_token` and the like: tokens that are due. Some are taken, and some are passed if they are there. After the
 //! `!` of a call arguments are due, which a name with a path may not have. The end mark is here too.
 
-ghost use Rattle.std.specs.Prelude.{◌≡◌, ◌+◌, ◌≤◌, IfErr, IfOk, IsTrue, OnOk, codes, false, true};
+ghost use Rattle.std.specs.Prelude.{◌≡◌, IfErr, IfOk, IsTrue, OnOk, codes, false, true};
 ghost use Rattle.rhai_lower.specs.Lexemes.{lexeme};
 ghost use Rattle.rhai_lower.specs.Positions.{nowhere};
 ghost use Rattle.rhai_grammar.specs.Beginnings.{calling, is_list, missing, unexpected};
 ghost use Rattle.rhai_grammar.specs.Causes.{BadInput, MemoryIsNowhere, input_cause, is_for_memory, refusal};
 ghost use Rattle.rhai_grammar.specs.Causes.{refusal_of};
-ghost use Rattle.rhai_grammar.specs.Cursors.{next_item, cursor_of, left, after_peek};
+ghost use Rattle.rhai_grammar.specs.Cursors.{next_item, cursor_of, after_peek};
 ghost use Rattle.rhai_grammar.specs.Delivered.{is_end, is_memory};
 ghost use Rattle.rhai_grammar.specs.DueTokens.{is_due, not_due, text_of_due};
 ghost use Rattle.rhai_grammar.specs.Verdicts.{bang_refusal};
 ghost use Rattle.rhai_leaves.specs.DueTokens.{Passes, Tries};
+ghost use Rattle.rhai_leaves.specs.Takes.{Looks, Takes, TakesIf};
 
 use crate::cursor::{peek, skip};
 use crate::refusals::{missing, unexpected};
@@ -72,8 +73,8 @@ pub(crate) fn is_due(due: DueToken, token: &Token) -> bool
     }
 }
 
-// Refuses a token at `pos` that is not the one that is due.
-fn test_due(
+/// Refuses a token at `pos` that is not the one that is due. `note` tells people what it is for.
+pub(crate) fn test_due(
     alloc: Global,
     due: DueToken,
     note: &str,
@@ -105,8 +106,7 @@ pub fn match_token(
 ) -> ParseResult<()>
     ensures passes { Passes due (cursor_of input.old) result (cursor_of input.new) }
     ensures nowhere { IfErr result MemoryIsNowhere }
-    ensures shorter { left (cursor_of input.new).tokens ≤ left (cursor_of input.old).tokens }
-    ensures shrinks { OnOk result (left (cursor_of input.new).tokens + 1 ≤ left (cursor_of input.old).tokens) }
+    ensures takes { Takes (cursor_of input.old) result (cursor_of input.new) }
 {
     let (token, pos) = peek(input)?;
     test_due(alloc, due, note, token, *pos)?;
@@ -119,9 +119,7 @@ pub fn match_token(
 pub fn pass_token(input: &mut TokenStream, due: DueToken) -> Result<bool, AllocError>
     ensures tries { Tries due (cursor_of input.old) result (cursor_of input.new) }
     ensures readable { OnOk result (is_memory (next_item (cursor_of input.old)).lexeme ≡ false) }
-    ensures shorter { left (cursor_of input.new).tokens ≤ left (cursor_of input.old).tokens }
-    ensures shrinks { IfOk result (λ passed. IsTrue passed
-        → left (cursor_of input.new).tokens + 1 ≤ left (cursor_of input.old).tokens) }
+    ensures takes { TakesIf (λ passed. IsTrue passed) (cursor_of input.old) result (cursor_of input.new) }
 {
     let (token, _) = peek(input)?;
     if is_due(due, token) {
@@ -160,8 +158,7 @@ pub fn arguments_due(alloc: Global, input: &mut TokenStream) -> ParseResult<Call
         × (refusal_of e ≡ refusal (missing (codes "(") (next_item (cursor_of input.old)).lexeme)
         (next_item (cursor_of input.old)).at)) }
     ensures nowhere { IfErr result MemoryIsNowhere }
-    ensures after { cursor_of input.new ≡ after_peek (cursor_of input.old) }
-    ensures readable { OnOk result (is_memory (next_item (cursor_of input.old)).lexeme ≡ false) }
+    ensures looks { Looks (cursor_of input.old) result (cursor_of input.new) }
 {
     let (token, pos) = peek(input)?;
     arguments_at(alloc, token, *pos)

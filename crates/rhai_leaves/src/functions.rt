@@ -1,6 +1,6 @@
 //! The head of a function: type, name, parameters, and `{`.
 
-ghost use Rattle.std.specs.Prelude.{◌≡◌, ◌⊎◌, ◌+◌, ◌≤◌, IfErr, IfOk, OnOk, false, true};
+ghost use Rattle.std.specs.Prelude.{◌≡◌, ◌⊎◌, ◌≤◌, IfErr, IfOk, OnOk, false, true};
 ghost use Rattle.std.specs.Rc.{rc_str_bytes};
 ghost use Rattle.rhai_lower.specs.Lexemes.{lexeme};
 ghost use Rattle.rhai_grammar.specs.Causes.{FnMissingName, MemoryIsNowhere, cause_of, is_for_memory, refusal};
@@ -13,6 +13,7 @@ ghost use Rattle.rhai_grammar.specs.declared.role.ItemRole.TheVariants.{Nothing}
 ghost use Rattle.rhai_reading.specs.Reading.{FunctionHead};
 ghost use Rattle.rhai_leaves.specs.Leaves.{GivesAt, head_view};
 ghost use Rattle.rhai_leaves.specs.Functions.{FunctionNames, OpensBody, OpensParameters, TakesParameter, Types};
+ghost use Rattle.rhai_leaves.specs.Takes.{Takes};
 
 use crate::cursor::{peek, skip};
 use crate::due::{is_due, match_token, pass_token};
@@ -47,8 +48,7 @@ fn no_function_name(token: &Token) -> Result<ParseErrorType, AllocError>
 pub fn take_type(input: &mut TokenStream) -> ParseResult<(RcStr, bool, Position)>
     ensures type_ { Types (cursor_of input.old) result (cursor_of input.new) }
     ensures nowhere { IfErr result MemoryIsNowhere }
-    ensures shorter { left (cursor_of input.new).tokens ≤ left (cursor_of input.old).tokens }
-    ensures shrinks { OnOk result (left (cursor_of input.new).tokens + 1 ≤ left (cursor_of input.old).tokens) }
+    ensures takes { Takes (cursor_of input.old) result (cursor_of input.new) }
 {
     let (token, pos) = peek(input)?;
     let pos = *pos;
@@ -122,8 +122,7 @@ fn no_parameters(function: &RcStr, token: &Token) -> Result<ParseErrorType, Allo
 pub fn open_parameters(input: &mut TokenStream, function: &RcStr) -> ParseResult<bool>
     ensures opens { OpensParameters (rc_str_bytes function.now) (cursor_of input.old) result (cursor_of input.new) }
     ensures nowhere { IfErr result MemoryIsNowhere }
-    ensures shorter { left (cursor_of input.new).tokens ≤ left (cursor_of input.old).tokens }
-    ensures shrinks { OnOk result (left (cursor_of input.new).tokens + 1 ≤ left (cursor_of input.old).tokens) }
+    ensures takes { Takes (cursor_of input.old) result (cursor_of input.new) }
 {
     let (token, pos) = peek(input)?;
     match what_calls(token) {
@@ -220,8 +219,7 @@ pub fn take_parameter(
 ) -> ParseResult<Option<(RcStr, Position)>>
     ensures parameter { TakesParameter list (cursor_of input.old) result (cursor_of input.new) }
     ensures nowhere { IfErr result MemoryIsNowhere }
-    ensures shorter { left (cursor_of input.new).tokens ≤ left (cursor_of input.old).tokens }
-    ensures shrinks { OnOk result (left (cursor_of input.new).tokens + 1 ≤ left (cursor_of input.old).tokens) }
+    ensures takes { Takes (cursor_of input.old) result (cursor_of input.new) }
 {
     let (token, pos) = peek(input)?;
     let pos = *pos;
@@ -253,8 +251,7 @@ fn no_body(function: &RcStr, token: &Token) -> Result<ParseErrorType, AllocError
 pub fn open_body(input: &mut TokenStream, function: &RcStr) -> ParseResult<Position>
     ensures opens { OpensBody (rc_str_bytes function.now) (cursor_of input.old) result (cursor_of input.new) }
     ensures nowhere { IfErr result MemoryIsNowhere }
-    ensures shorter { left (cursor_of input.new).tokens ≤ left (cursor_of input.old).tokens }
-    ensures shrinks { OnOk result (left (cursor_of input.new).tokens + 1 ≤ left (cursor_of input.old).tokens) }
+    ensures takes { Takes (cursor_of input.old) result (cursor_of input.new) }
 {
     let (token, pos) = peek(input)?;
     let pos = *pos;

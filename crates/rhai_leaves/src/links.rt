@@ -10,6 +10,7 @@ ghost use Rattle.rhai_grammar.specs.Delivered.{is_end, is_memory};
 ghost use Rattle.rhai_grammar.specs.Verdicts.{no_path};
 ghost use Rattle.rhai_leaves.specs.Members.{no_member};
 ghost use Rattle.rhai_leaves.specs.OperandEnds.{ends_operand};
+ghost use Rattle.rhai_leaves.specs.Takes.{Looks};
 
 use crate::cursor::peek;
 use crate::refusals::no_member;
@@ -37,8 +38,7 @@ pub fn what_links(token: &Token) -> Linking
 #[inline(always)]
 pub fn ends_operand(input: &mut TokenStream) -> Result<bool, AllocError>
     ensures value { IfOk result (λ ends. ends ≡ ends_operand (next_item (cursor_of input.old)).lexeme) }
-    ensures after { cursor_of input.new ≡ after_peek (cursor_of input.old) }
-    ensures readable { OnOk result (is_memory (next_item (cursor_of input.old)).lexeme ≡ false) }
+    ensures looks { Looks (cursor_of input.old) result (cursor_of input.new) }
 {
     let (token, _) = peek(input)?;
     Ok(!calls(token) && !qualifies(token) && matches!(what_links(token), Linking::Nothing))

@@ -1,13 +1,14 @@
 //! `list_continues`: what follows a part of a list with commas.
 
-ghost use Rattle.std.specs.Prelude.{◌≡◌, ◌+◌, ◌≤◌, IfErr, IfOk, IsTrue, false};
+ghost use Rattle.std.specs.Prelude.{◌≡◌, IfErr, IsTrue, false};
 ghost use Rattle.rhai_lower.specs.Lexemes.{lexeme};
 ghost use Rattle.rhai_grammar.specs.Causes.{MemoryIsNowhere, Says, refusal};
 ghost use Rattle.rhai_grammar.specs.CommaLists.{after_part, closing_text, is_close, not_after, wants_comma};
-ghost use Rattle.rhai_grammar.specs.Cursors.{cursor_of, left};
+ghost use Rattle.rhai_grammar.specs.Cursors.{cursor_of};
 ghost use Rattle.rhai_grammar.specs.Delivered.{is_end};
 ghost use Rattle.rhai_grammar.specs.declared.list.AfterPart.TheVariants.{Comma};
 ghost use Rattle.rhai_leaves.specs.CommaLists.{Separates};
+ghost use Rattle.rhai_leaves.specs.Takes.{TakesIf};
 
 use crate::cursor::{peek, skip};
 use crate::refusals::missing;
@@ -115,9 +116,7 @@ pub(crate) fn not_after(alloc: Global, list: CommaList, token: &Token, pos: Posi
 pub fn list_continues(alloc: Global, input: &mut TokenStream, list: CommaList) -> ParseResult<bool>
     ensures separates { Separates list (cursor_of input.old) result (cursor_of input.new) }
     ensures nowhere { IfErr result MemoryIsNowhere }
-    ensures shorter { left (cursor_of input.new).tokens ≤ left (cursor_of input.old).tokens }
-    ensures shrinks { IfOk result (λ more. IsTrue more
-        → left (cursor_of input.new).tokens + 1 ≤ left (cursor_of input.old).tokens) }
+    ensures takes { TakesIf (λ more. IsTrue more) (cursor_of input.old) result (cursor_of input.new) }
 {
     let (token, pos) = peek(input)?;
     match after_part(list, token) {

@@ -1,14 +1,15 @@
 //! The binary operator after an operand, if one is there.
 
-ghost use Rattle.std.specs.Prelude.{◌≡◌, IfErr, IfOk, IsSome, OnOk, false};
+ghost use Rattle.std.specs.Prelude.{◌≡◌, IfErr, IfOk, IsSome, false};
 ghost use Rattle.rhai_lower.specs.Lexemes.{lexeme, text_of};
 ghost use Rattle.rhai_grammar.specs.Causes.{MemoryIsNowhere, UnknownOperator, is_for_memory, refusal, refusal_of};
-ghost use Rattle.rhai_grammar.specs.Cursors.{next_item, cursor_of, after_peek};
+ghost use Rattle.rhai_grammar.specs.Cursors.{next_item, cursor_of};
 ghost use Rattle.rhai_grammar.specs.Delivered.{is_end, is_memory};
 ghost use Rattle.rhai_grammar.specs.Strengths.{Unknown, follower_of};
 ghost use Rattle.rhai_grammar.specs.Strengths.{bars_pipe, is_pipe};
 ghost use Rattle.rhai_leaves.specs.OperandEnds.{ends_expression};
 ghost use Rattle.rhai_leaves.specs.Operators.{continues, is_reserved_symbol, operator_found, written_operator};
+ghost use Rattle.rhai_leaves.specs.Takes.{Looks};
 
 use crate::cursor::peek;
 use crate::refusals::unknown_operator;
@@ -92,9 +93,8 @@ pub fn next_operator(
         × (refusal_of e ≡ refusal (UnknownOperator (text_of (next_item (cursor_of input.old)).lexeme))
         (next_item (cursor_of input.old)).at)) }
     ensures nowhere { IfErr result MemoryIsNowhere }
-    ensures after { cursor_of input.new ≡ after_peek (cursor_of input.old) }
+    ensures looks { Looks (cursor_of input.old) result (cursor_of input.new) }
     ensures some { IfOk result (λ o. IsSome o → is_end (next_item (cursor_of input.old)).lexeme ≡ false) }
-    ensures readable { OnOk result (is_memory (next_item (cursor_of input.old)).lexeme ≡ false) }
 {
     let (token, pos) = peek(input)?;
     if ends_expression(token) {

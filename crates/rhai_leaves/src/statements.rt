@@ -8,7 +8,7 @@ ghost use Rattle.rhai_lower.specs.Lexemes.{lexeme};
 ghost use Rattle.rhai_grammar.specs.Beginnings.{missing};
 ghost use Rattle.rhai_grammar.specs.Causes.{MemoryIsNowhere, cause_of, is_for_memory, refusal, refusal_of};
 ghost use Rattle.rhai_grammar.specs.Contexts.{Context, allows_looping};
-ghost use Rattle.rhai_grammar.specs.Cursors.{next_item, cursor_of, left, after_peek};
+ghost use Rattle.rhai_grammar.specs.Cursors.{next_item, cursor_of, left};
 ghost use Rattle.rhai_grammar.specs.Delivered.{is_end, is_memory};
 ghost use Rattle.rhai_grammar.specs.Statements.{allowed_start, any_start, defines, is_comment};
 ghost use Rattle.rhai_grammar.specs.Statements.{no_variable, statement_role, statement_start, token_after_statement};
@@ -18,6 +18,7 @@ ghost use Rattle.rhai_grammar.specs.declared.role.StatementRole.TheVariants.{Not
 ghost use Rattle.rhai_reading.specs.Reading.{Alias};
 ghost use Rattle.rhai_leaves.specs.Leaves.{GivesAt};
 ghost use Rattle.rhai_leaves.specs.Statements.{Names, Separates, TakesComment, TakesText, is_expression, role_found};
+ghost use Rattle.rhai_leaves.specs.Takes.{Looks, TakesIf};
 
 use crate::constructs::may_stand;
 use crate::cursor::{peek, skip};
@@ -117,9 +118,7 @@ pub fn take_comment(
     input: &mut TokenStream,
 ) -> Result<Option<(RcStr, Position)>, AllocError>
     ensures comment { TakesComment (cursor_of input.old) result (cursor_of input.new) }
-    ensures shorter { left (cursor_of input.new).tokens ≤ left (cursor_of input.old).tokens }
-    ensures shrinks { IfOk result (λ comment. IsSome comment
-        → left (cursor_of input.new).tokens + 1 ≤ left (cursor_of input.old).tokens) }
+    ensures takes { TakesIf (λ comment. IsSome comment) (cursor_of input.old) result (cursor_of input.new) }
 {
     let (token, _) = peek(input)?;
     if !is_comment(token) {
@@ -160,8 +159,7 @@ pub fn list_ends(alloc: Global, input: &mut TokenStream, closing: Closing) -> Pa
         × (refusal_of e ≡ refusal (missing (codes "}") (next_item (cursor_of input.old)).lexeme)
         (next_item (cursor_of input.old)).at)) }
     ensures nowhere { IfErr result MemoryIsNowhere }
-    ensures after { cursor_of input.new ≡ after_peek (cursor_of input.old) }
-    ensures readable { OnOk result (is_memory (next_item (cursor_of input.old)).lexeme ≡ false) }
+    ensures looks { Looks (cursor_of input.old) result (cursor_of input.new) }
 {
     let (token, pos) = peek(input)?;
     match statement_role(closing, token) {
@@ -204,9 +202,7 @@ pub fn statement_continues(
 ) -> ParseResult<bool>
     ensures separates { Separates closing (cursor_of input.old) result (cursor_of input.new) }
     ensures nowhere { IfErr result MemoryIsNowhere }
-    ensures shorter { left (cursor_of input.new).tokens ≤ left (cursor_of input.old).tokens }
-    ensures shrinks { IfOk result (λ semicolon. IsTrue semicolon
-        → left (cursor_of input.new).tokens + 1 ≤ left (cursor_of input.old).tokens) }
+    ensures takes { TakesIf (λ semicolon. IsTrue semicolon) (cursor_of input.old) result (cursor_of input.new) }
 {
     let (token, pos) = peek(input)?;
     match token_after_statement(closing, token) {
@@ -276,8 +272,7 @@ pub fn what_is_exported(input: &mut TokenStream) -> Result<Option<bool>, AllocEr
     ensures value { IfOk result (λ constant. constant ≡ defines (next_item (cursor_of input.old)).lexeme) }
     ensures more { IfOk result (λ constant. IfSome constant (λ b.
         is_end (next_item (cursor_of input.old)).lexeme ≡ false)) }
-    ensures after { cursor_of input.new ≡ after_peek (cursor_of input.old) }
-    ensures readable { OnOk result (is_memory (next_item (cursor_of input.old)).lexeme ≡ false) }
+    ensures looks { Looks (cursor_of input.old) result (cursor_of input.new) }
 {
     let (token, _) = peek(input)?;
     Ok(defines(token))
@@ -317,8 +312,7 @@ pub fn is_assignment(token: &Token) -> bool
 pub fn has_value(input: &mut TokenStream) -> Result<bool, AllocError>
     ensures value { IfOk result (λ equals. equals ≡ is_equals (next_item (cursor_of input.old)).lexeme) }
     ensures more { IfOk result (λ equals. IsTrue equals → is_end (next_item (cursor_of input.old)).lexeme ≡ false) }
-    ensures after { cursor_of input.new ≡ after_peek (cursor_of input.old) }
-    ensures readable { OnOk result (is_memory (next_item (cursor_of input.old)).lexeme ≡ false) }
+    ensures looks { Looks (cursor_of input.old) result (cursor_of input.new) }
 {
     let (token, _) = peek(input)?;
     Ok(is_equals(token))
@@ -329,8 +323,7 @@ pub fn has_value(input: &mut TokenStream) -> Result<bool, AllocError>
 pub fn assigns(input: &mut TokenStream) -> Result<bool, AllocError>
     ensures value { IfOk result (λ assigns. assigns ≡ is_assignment (next_item (cursor_of input.old)).lexeme) }
     ensures more { IfOk result (λ assigns. IsTrue assigns → is_end (next_item (cursor_of input.old)).lexeme ≡ false) }
-    ensures after { cursor_of input.new ≡ after_peek (cursor_of input.old) }
-    ensures readable { OnOk result (is_memory (next_item (cursor_of input.old)).lexeme ≡ false) }
+    ensures looks { Looks (cursor_of input.old) result (cursor_of input.new) }
 {
     let (token, _) = peek(input)?;
     Ok(is_assignment(token))

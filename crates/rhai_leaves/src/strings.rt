@@ -1,16 +1,17 @@
 //! Interpolated strings: the end of a block, and the text after it.
 
-ghost use Rattle.std.specs.Prelude.{◌≡◌, ◌+◌, ◌≤◌, IfErr, IfOk, OnOk, false, true};
+ghost use Rattle.std.specs.Prelude.{◌≡◌, IfErr, IfOk, OnOk, false, true};
 ghost use Rattle.std.specs.Rc.{rc_str_bytes};
 ghost use Rattle.rhai_lower.specs.Lexemes.{lexeme, text_of};
 ghost use Rattle.rhai_grammar.specs.Beginnings.{unexpected};
 ghost use Rattle.rhai_grammar.specs.Causes.{MemoryIsNowhere, is_for_memory, refusal, refusal_of};
-ghost use Rattle.rhai_grammar.specs.Cursors.{cursor_of, left};
+ghost use Rattle.rhai_grammar.specs.Cursors.{cursor_of};
 ghost use Rattle.rhai_grammar.specs.Delivered.{is_end};
 ghost use Rattle.rhai_grammar.specs.Interpolations.{is_last_text, is_text};
 ghost use Rattle.rhai_reading.specs.Reading.{TextAfter};
 ghost use Rattle.rhai_leaves.specs.Leaves.{GivesAt};
 ghost use Rattle.rhai_leaves.specs.Strings.{text_view};
+ghost use Rattle.rhai_leaves.specs.Takes.{Takes};
 
 use crate::cursor::{peek, skip};
 use crate::due::match_token;
@@ -42,8 +43,7 @@ pub struct TextPart {
 #[tactic(auto, using(rhai_reading::proofs::Steps::step_text_after))]
 pub fn end_interpolation(alloc: Global, input: &mut TokenStream) -> ParseResult<TextPart>
     ensures gives { GivesAt TextAfter text_view (cursor_of input.old) result (cursor_of input.new) }
-    ensures shorter { left (cursor_of input.new).tokens ≤ left (cursor_of input.old).tokens }
-    ensures shrinks { OnOk result (left (cursor_of input.new).tokens + 1 ≤ left (cursor_of input.old).tokens) }
+    ensures takes { Takes (cursor_of input.old) result (cursor_of input.new) }
 {
     let (_, end) = peek(input)?;
     let end = *end;

@@ -1,15 +1,16 @@
 //! What a token is where an operand is due, and after a name.
 
-ghost use Rattle.std.specs.Prelude.{◌≡◌, IfOk, IsTrue, OnOk, false, true};
+ghost use Rattle.std.specs.Prelude.{◌≡◌, IfOk, IsTrue, false, true};
 ghost use Rattle.rhai_lower.specs.Lexemes.{lexeme};
-ghost use Rattle.rhai_grammar.specs.Delivered.{is_end, is_memory};
-ghost use Rattle.rhai_grammar.specs.Cursors.{next_item, cursor_of, after_peek};
+ghost use Rattle.rhai_grammar.specs.Delivered.{is_end};
+ghost use Rattle.rhai_grammar.specs.Cursors.{next_item, cursor_of};
 ghost use Rattle.rhai_grammar.specs.Beginnings.{beginning, calling, calls, excludes_use, is_begun, is_call};
 ghost use Rattle.rhai_grammar.specs.Beginnings.{omits_operand, qualifies};
 ghost use Rattle.rhai_grammar.specs.CommaLists.{no_argument};
 ghost use Rattle.rhai_leaves.specs.Closures.{EndsHere};
 ghost use Rattle.rhai_grammar.specs.Starts.{jumps, operand_start, role_after};
 ghost use Rattle.rhai_grammar.specs.declared.role.OperandStart.TheVariants.{Jump};
+ghost use Rattle.rhai_leaves.specs.Takes.{Looks};
 
 use crate::cursor::peek;
 use rhai_grammar::role::{Bars, OperandRole, OperandStart};
@@ -143,8 +144,7 @@ pub(crate) fn calls(token: &Token) -> bool
 /// at that token.
 pub fn is_called(input: &mut TokenStream) -> Result<bool, AllocError>
     ensures value { IfOk result (λ called. called ≡ calls (next_item (cursor_of input.old)).lexeme) }
-    ensures after { cursor_of input.new ≡ after_peek (cursor_of input.old) }
-    ensures readable { OnOk result (is_memory (next_item (cursor_of input.old)).lexeme ≡ false) }
+    ensures looks { Looks (cursor_of input.old) result (cursor_of input.new) }
 {
     let (token, _) = peek(input)?;
     Ok(calls(token))
@@ -163,8 +163,7 @@ pub(crate) fn qualifies(token: &Token) -> bool
 #[inline(always)]
 pub fn excludes_use(input: &mut TokenStream) -> Result<bool, AllocError>
     ensures value { IfOk result (λ excluded. excluded ≡ excludes_use (next_item (cursor_of input.old)).lexeme) }
-    ensures after { cursor_of input.new ≡ after_peek (cursor_of input.old) }
-    ensures readable { OnOk result (is_memory (next_item (cursor_of input.old)).lexeme ≡ false) }
+    ensures looks { Looks (cursor_of input.old) result (cursor_of input.new) }
 {
     let (token, _) = peek(input)?;
     Ok(calls(token) || qualifies(token))
@@ -174,8 +173,7 @@ pub fn excludes_use(input: &mut TokenStream) -> Result<bool, AllocError>
 /// memory at that token.
 pub fn ends_here(input: &mut TokenStream) -> Result<Option<Position>, AllocError>
     ensures end { IfOk result (EndsHere (next_item (cursor_of input.old))) }
-    ensures after { cursor_of input.new ≡ after_peek (cursor_of input.old) }
-    ensures readable { OnOk result (is_memory (next_item (cursor_of input.old)).lexeme ≡ false) }
+    ensures looks { Looks (cursor_of input.old) result (cursor_of input.new) }
 {
     let (token, pos) = peek(input)?;
     if is_end(token) {
@@ -190,8 +188,7 @@ pub fn is_qualified(input: &mut TokenStream) -> Result<bool, AllocError>
     ensures value { IfOk result (λ qualified. qualified ≡ qualifies (next_item (cursor_of input.old)).lexeme) }
     ensures more { IfOk result (λ qualified. IsTrue qualified
         → is_end (next_item (cursor_of input.old)).lexeme ≡ false) }
-    ensures after { cursor_of input.new ≡ after_peek (cursor_of input.old) }
-    ensures readable { OnOk result (is_memory (next_item (cursor_of input.old)).lexeme ≡ false) }
+    ensures looks { Looks (cursor_of input.old) result (cursor_of input.new) }
 {
     let (token, _) = peek(input)?;
     Ok(qualifies(token))

@@ -205,10 +205,7 @@ fn parse_construct(
 {
     let readers = lent!();
     let reader = statements::Reader { engine, readers };
-    nested!(
-        shared,
-        reader.parse_construct(shared, frame, settings, kind)
-    )
+    reader.parse_construct(shared, frame, settings, kind)
 }
 
 /// Reads the statements of a block up to its `}`, which stays. Its definitions end with it.

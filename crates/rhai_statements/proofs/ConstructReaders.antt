@@ -1,4 +1,4 @@
--- Rules for the proofs of the readers of constructs. For each reader they have its equation, and what it makes of what
+-- Rules for the proofs of the readers of constructs. They have the equation of what is read, and what it makes of what
 -- it read.
 use Rattle.rhai_lower.proofs.Views.{view_unit, views_push}
 use Rattle.rhai_reading.proofs.Steps.{nested_so, step_action, step_arm, step_arms, step_braced, step_branch, step_case, step_case_guard, step_cases, step_conditional, step_construct, step_default_arm, step_guard, step_iterated}
@@ -17,17 +17,7 @@ pub ruleset parse_iterated = (readers, nested_so, step_iterated)
 
 pub ruleset parse_braces = (readers, nested_so, step_braced)
 
-pub ruleset parse_while = (readers, nested_so, step_construct)
-
 pub ruleset parse_loop = (readers, nested_so, step_construct, view_unit)
-
-pub ruleset parse_do = (readers, nested_so, step_construct)
-
-pub ruleset parse_for = (readers, nested_so, step_construct)
-
-pub ruleset parse_try = (readers, nested_so, step_construct)
-
-pub ruleset parse_switch = (readers, nested_so, step_construct)
 
 pub ruleset parse_arms = (readers, nested_so, step_arms)
 

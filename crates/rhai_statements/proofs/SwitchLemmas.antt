@@ -1,10 +1,11 @@
--- A refusal in a case of `switch`. The reading program makes of it what the code does.
-use Rattle.std.proofs.Common.{◌≡◌, Bool, true, false, refl, ap, sym, ◌∙◌}
-use Rattle.rhai_lower.specs.Nodes.{Node}
+-- A refusal in a case of `switch`, and the end of an arm. The reading program makes of them what the code does.
+use Rattle.std.proofs.Common.{◌≡◌, Bool, true, false, refl, ap, sym, ◌∙◌, Result, Ok, Err, None}
+use Rattle.rhai_lower.specs.Nodes.{Node, Nodes}
 use Rattle.rhai_grammar.specs.Causes.{MemoryIsNowhere, Says, as_literal, is_for_memory, refusal_of}
 use Rattle.rhai_grammar.specs.declared.error.ParseError.{ParseError}
+use Rattle.rhai_reading.specs.Reading.{ArmEnd, arm_on}
 use Rattle.rhai_reading.specs.Running as R
-use Rattle.rhai_reading.specs.Running.{Fails, Progress, and_then, recast}
+use Rattle.rhai_reading.specs.Running.{Caller, Fails, Gives, Progress, and_then, exec, recast, result_of}
 
 not_memory : (a b : Bool) → (a ≡ true → b ≡ true) → b ≡ false → a ≡ false
 not_memory false b h e = refl
@@ -20,3 +21,12 @@ recast_given o t e d kept says fails = (
       ∙ ap (λ r. R.Refused r t) (sym ((says fails.1).0 told)),
   (says fails.1).1,
 )
+
+-- the end of an arm of these parts, whose cases are no fault
+pub arm_ended : (call : Caller) (xs : Nodes) (guard action : Node) (ends : Bool) (s t : Progress) (r : Result Unit ParseError)
+    → call (ArmEnd ends) s ≡ result_of (ArmEnd ends) s → Gives (λ done. tt) (result_of (ArmEnd ends) s) r t
+    → Gives (λ done. (xs, guard, action)) (exec call (arm_on xs guard (action, ends) None) s) r t
+arm_ended call xs guard action ends s t (Ok done) at_end given =
+    ap (λ o. and_then o (λ v u. R.Done (xs, guard, action) u)) (at_end ∙ given)
+arm_ended call xs guard action ends s t (Err e) at_end given =
+    (λ told. ap (λ o. and_then o (λ v u. R.Done (xs, guard, action) u)) (at_end ∙ given.0 told), given.1)

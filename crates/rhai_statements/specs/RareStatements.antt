@@ -1,7 +1,17 @@
 -- Statements by how often they are read.
 use Rattle.std.specs.Prelude.{◌≡◌, Bool, true, false, refl}
+use Rattle.rhai_lower.specs.declared.position.Position.{Position}
+use Rattle.rhai_grammar.specs.Delivered.{is_memory}
+use Rattle.rhai_grammar.specs.Statements.{statement_start}
+use Rattle.rhai_grammar.specs.declared.role.Construct.{Construct}
+use Rattle.rhai_grammar.specs.declared.role.Construct.TheVariants as construct
 use Rattle.rhai_grammar.specs.declared.role.StatementStart.{StatementStart}
 use Rattle.rhai_grammar.specs.declared.role.StatementStart.TheVariants as start
+use Rattle.rhai_reading.specs.Running.{Progress, after_peek, next_item}
+use Rattle.rhai_base.specs.Frames.{FrameValue}
+use Rattle.rhai_base.specs.declared.settings.ParseSettings.{ParseSettings}
+use Rattle.rhai_readers.specs.Engines.{EngineValue}
+use Rattle.rhai_readers.specs.Frames.{context_of}
 
 -- a jump
 abbrev pub is_jump : StatementStart → Bool
@@ -21,5 +31,20 @@ is_rare start.Break = false
 is_rare start.Continue = false
 is_rare _ = true
 
+-- a block, which begins with no keyword
+abbrev pub is_block : Construct → Bool
+is_block construct.Block = true
+is_block _ = false
+
 example : (is_rare start.Let ≡ true) × (is_rare start.Return ≡ false) × (is_jump start.Return ≡ true)
 example = (refl, refl, refl)
+
+-- The next token, which is at this position, has been looked at, there was memory for it, and such a statement begins
+-- with it.
+pub record Starts (such : StatementStart → Bool) (engine : EngineValue) (frame : FrameValue) (settings : ParseSettings)
+    (start : StatementStart) (at : Position) (s : Progress) : Type 0 where
+  pub looked : s ≡ after_peek s
+  pub readable : is_memory (next_item s).lexeme ≡ false
+  pub class : start ≡ statement_start (context_of engine frame settings) (next_item s).lexeme
+  pub stands : at ≡ (next_item s).at
+  pub kind : such start ≡ true

@@ -2,10 +2,12 @@
 
 pub(crate) mod control;
 
+ghost use Rattle.std.specs.Prelude.{◌≡◌, false};
 ghost use Rattle.rhai_lower.specs.View.{block_view, statement_view, view};
-ghost use Rattle.rhai_grammar.specs.declared.role.Construct.TheVariants.{Do, For, Loop, Try, While};
-ghost use Rattle.rhai_readers.specs.Readers.{Covers, ReadsAs, braced, branch, conditional, construct};
-ghost use Rattle.rhai_readers.specs.Readers.{guard, iterated};
+ghost use Rattle.rhai_grammar.specs.declared.role.Construct.TheVariants.{Block, Do, For, Loop, Try, While};
+ghost use Rattle.rhai_readers.specs.Readers.{Covers, NestsAs, ReadsAs, braced, branch, conditional};
+ghost use Rattle.rhai_readers.specs.Readers.{construct, guard, iterated};
+ghost use Rattle.rhai_statements.specs.RareStatements.{is_block};
 
 use crate::construct::control::{catch_frame, end_guard, end_iterated, loop_frame};
 use crate::reader::Reader;
@@ -22,7 +24,8 @@ use rhai_trees::{
 };
 
 impl<R: LentReaders> Reader<'_, R> {
-    /// Reads a construct of this kind after its first token, where the settings stand.
+    /// Reads a construct of this kind after its first token, where the settings stand, as a reader that counts.
+    #[inline(always)]
     #[tactic(auto, using(crate::proofs::ConstructReaders::parse_construct))]
     pub fn parse_construct(
         &self,
@@ -33,14 +36,77 @@ impl<R: LentReaders> Reader<'_, R> {
     ) -> ParseResult<Stmt>
         requires lent { Covers (R.lent self.now.readers) (construct kind self.now.engine.now frame.now settings)
             shared.old }
+        ensures { NestsAs self.now.engine.now frame.now settings 5 (construct kind) statement_view shared.old result
+            shared.new }
+    {
+        match kind {
+            Construct::Block => self.parse_block_statement(shared, frame, settings),
+            _ => self.parse_keyword_construct(shared, frame, settings, kind),
+        }
+    }
+
+    // Reads a block as a statement, as a reader that counts. It is apart from other constructs, since most are blocks,
+    // and a function clears all its locals when it begins.
+    #[inline(never)]
+    #[tactic(auto, using(crate::proofs::ConstructReaders::parse_construct))]
+    fn parse_block_statement(
+        &self,
+        shared: &mut Shared<'_>,
+        frame: &Frame<'_>,
+        settings: ParseSettings,
+    ) -> ParseResult<Stmt>
+        requires lent { Covers (R.lent self.now.readers) (construct Block self.now.engine.now frame.now settings)
+            shared.old }
+        ensures { NestsAs self.now.engine.now frame.now settings 5 (construct Block) statement_view shared.old result
+            shared.new }
+    {
+        let block = nested!(
+            shared,
+            nested!(shared, self.parse_block(shared, frame, settings))
+        )?;
+        Ok(make_block_statement(block))
+    }
+
+    // Reads a construct after its keyword, as a reader that counts.
+    #[inline(never)]
+    #[tactic(auto, using(crate::proofs::ConstructReaders::parse_construct))]
+    fn parse_keyword_construct(
+        &self,
+        shared: &mut Shared<'_>,
+        frame: &Frame<'_>,
+        settings: ParseSettings,
+        kind: Construct,
+    ) -> ParseResult<Stmt>
+        requires keyword { is_block kind ≡ false }
+        requires lent { Covers (R.lent self.now.readers) (construct kind self.now.engine.now frame.now settings)
+            shared.old }
+        ensures { NestsAs self.now.engine.now frame.now settings 5 (construct kind) statement_view shared.old result
+            shared.new }
+    {
+        nested!(
+            shared,
+            self.parse_after_keyword(shared, frame, settings, kind)
+        )
+    }
+
+    // Reads a construct after its keyword.
+    #[inline(always)]
+    #[tactic(auto, using(crate::proofs::ConstructReaders::parse_construct))]
+    fn parse_after_keyword(
+        &self,
+        shared: &mut Shared<'_>,
+        frame: &Frame<'_>,
+        settings: ParseSettings,
+        kind: Construct,
+    ) -> ParseResult<Stmt>
+        requires keyword { is_block kind ≡ false }
+        requires lent { Covers (R.lent self.now.readers) (construct kind self.now.engine.now frame.now settings)
+            shared.old }
         ensures { ReadsAs self.now.engine.now frame.now settings 4 (construct kind) statement_view shared.old result
             shared.new }
     {
         match kind {
-            Construct::Block => {
-                let block = nested!(shared, self.parse_block(shared, frame, settings))?;
-                Ok(make_block_statement(block))
-            }
+            Construct::Block => unreachable!(),
             Construct::If => nested!(shared, self.parse_if(shared, frame, settings)),
             Construct::While => self.parse_while(shared, frame, settings),
             Construct::Loop => self.parse_loop(shared, frame, settings),
@@ -151,7 +217,7 @@ impl<R: LentReaders> Reader<'_, R> {
     }
 
     /// Reads a `while` after its keyword, where the settings stand.
-    #[tactic(auto, using(crate::proofs::ConstructReaders::parse_while))]
+    #[tactic(auto, using(crate::proofs::ConstructReaders::parse_construct))]
     fn parse_while(
         &self,
         shared: &mut Shared<'_>,
@@ -197,7 +263,7 @@ impl<R: LentReaders> Reader<'_, R> {
     }
 
     /// Reads a `do` after its keyword, where the settings stand. Its guard is not in the loop.
-    #[tactic(auto, using(crate::proofs::ConstructReaders::parse_do))]
+    #[tactic(auto, using(crate::proofs::ConstructReaders::parse_construct))]
     fn parse_do(
         &self,
         shared: &mut Shared<'_>,
@@ -219,7 +285,7 @@ impl<R: LentReaders> Reader<'_, R> {
     }
 
     /// Reads a `for` after its keyword, where the settings stand. Its variables are live in its block alone.
-    #[tactic(auto, using(crate::proofs::ConstructReaders::parse_for))]
+    #[tactic(auto, using(crate::proofs::ConstructReaders::parse_construct))]
     fn parse_for(
         &self,
         shared: &mut Shared<'_>,
@@ -250,7 +316,7 @@ impl<R: LentReaders> Reader<'_, R> {
 
     /// Reads a `try` after its keyword, where the settings stand. The variable of its `catch` is live in the block of
     /// that alone.
-    #[tactic(auto, using(crate::proofs::ConstructReaders::parse_try))]
+    #[tactic(auto, using(crate::proofs::ConstructReaders::parse_construct))]
     fn parse_try(
         &self,
         shared: &mut Shared<'_>,

@@ -9,11 +9,11 @@ ghost use Rattle.rhai_lower.specs.View.{statement_view, view};
 ghost use Rattle.rhai_readers.specs.Readers.{Covers, ReadsAs, definition, expr_statement, initializer};
 ghost use Rattle.rhai_readers.specs.Readers.{statement};
 ghost use Rattle.rhai_readers.specs.Readers.{exported, imported};
-ghost use Rattle.rhai_grammar.specs.Statements.{ends_itself, statement_start};
+ghost use Rattle.rhai_grammar.specs.Contexts.{has_single_blocks};
+ghost use Rattle.rhai_grammar.specs.Statements.{ends_itself};
 ghost use Rattle.rhai_readers.specs.Frames.{context_of};
-ghost use Rattle.rhai_statements.specs.RareStatements.{is_jump, is_rare};
+ghost use Rattle.rhai_statements.specs.RareStatements.{Starts, is_jump, is_rare};
 ghost use Rattle.rhai_statements.specs.Statements.{ReadsStatement};
-ghost use Rattle.rhai_reading.specs.Running.{next_item};
 ghost use Rattle.rhai_base.specs.Frames.{SameSurroundings};
 ghost use Rattle.rhai_readers.specs.Readers.{inside, jump, state_of, statements, statements_of, with_live};
 ghost use Rattle.rhai_trees.specs.Statements.{optional_view};
@@ -87,26 +87,30 @@ impl<R: LentReaders> Reader<'_, R> {
         ensures { ReadsStatement self.now.engine.now frame.old frame.new settings shared.old result shared.new }
     {
         let (token, pos) = peek(shared.input)?;
-        match what_starts(self.engine.allow_looping(), token) {
+        let pos = *pos;
+        let start = what_starts(self.engine.allow_looping(), token);
+        match start {
             StatementStart::Expression => {
-                let deeper = settings.at(*pos).level_up()?;
+                let deeper = settings.at(pos).level_up()?;
                 nested!(shared, self.parse_expr_stmt(shared, frame, deeper))
             }
             StatementStart::Construct(kind) => {
-                let settings = settings.at(*pos);
+                let settings = settings.at(pos);
                 skip(shared.input);
                 let deeper = settings.level_up()?.level_up()?;
-                nested!(shared, self.parse_construct(shared, frame, deeper, kind))
+                self.parse_construct(shared, frame, deeper, kind)
             }
             StatementStart::Return
             | StatementStart::Throw
             | StatementStart::Break
-            | StatementStart::Continue => self.parse_jump_stmt(shared, frame, settings),
-            _ => self.parse_keyword_stmt(shared, frame, settings),
+            | StatementStart::Continue => {
+                self.parse_jump_stmt(shared, frame, settings, start, pos)
+            }
+            _ => self.parse_keyword_stmt(shared, frame, settings, start, pos),
         }
     }
 
-    // Reads a `return`, `throw`, `break` or `continue`.
+    // Reads a `return`, `throw`, `break` or `continue`, whichever begins at the next token, which is at `pos`.
     #[inline(always)]
     #[tactic(auto, using(crate::proofs::StmtReaders::parse_stmt))]
     fn parse_jump_stmt(
@@ -114,15 +118,15 @@ impl<R: LentReaders> Reader<'_, R> {
         shared: &mut Shared<'_>,
         frame: &Frame<'_>,
         settings: ParseSettings,
+        start: StatementStart,
+        pos: Position,
     ) -> ParseResult<Stmt>
-        requires jump { is_jump (statement_start (context_of self.now.engine.now frame.now settings)
-            (next_item (state_of shared.old)).lexeme) ≡ true }
+        requires jump { Starts is_jump self.now.engine.now frame.now settings start pos (state_of shared.old) }
         requires lent { Covers (R.lent self.now.readers) (statement self.now.engine.now frame.now settings) shared.old }
         ensures { ReadsStatement self.now.engine.now frame.now frame.now settings shared.old result shared.new }
     {
-        let (token, pos) = peek(shared.input)?;
-        let settings = settings.at(*pos);
-        match what_starts(self.engine.allow_looping(), token) {
+        let settings = settings.at(pos);
+        match start {
             StatementStart::Return => {
                 skip(shared.input);
                 let value = nested!(shared, self.parse_jump(shared, frame, settings))?;
@@ -148,7 +152,8 @@ impl<R: LentReaders> Reader<'_, R> {
         }
     }
 
-    // Reads a statement that is neither an expression nor a construct nor a jump.
+    // Reads a statement that is neither an expression nor a construct nor a jump, whichever begins at the next token,
+    // which is at `pos`.
     #[inline(always)]
     #[tactic(auto, using(crate::proofs::StmtReaders::parse_stmt))]
     fn parse_keyword_stmt(
@@ -156,15 +161,15 @@ impl<R: LentReaders> Reader<'_, R> {
         shared: &mut Shared<'_>,
         frame: &mut Frame<'_>,
         settings: ParseSettings,
+        start: StatementStart,
+        pos: Position,
     ) -> ParseResult<Stmt>
-        requires keyword { is_rare (statement_start (context_of self.now.engine.now frame.old settings)
-            (next_item (state_of shared.old)).lexeme) ≡ true }
+        requires keyword { Starts is_rare self.now.engine.now frame.old settings start pos (state_of shared.old) }
         requires lent { Covers (R.lent self.now.readers) (statement self.now.engine.now frame.old settings) shared.old }
         ensures { ReadsStatement self.now.engine.now frame.old frame.new settings shared.old result shared.new }
     {
-        let (token, pos) = peek(shared.input)?;
-        let settings = settings.at(*pos);
-        match what_starts(self.engine.allow_looping(), token) {
+        let settings = settings.at(pos);
+        match start {
             StatementStart::Empty => {
                 skip(shared.input);
                 Ok(Stmt::Noop(settings.pos))
@@ -338,12 +343,29 @@ impl<R: LentReaders> Reader<'_, R> {
         ensures { ReadsAs self.now.engine.now frame.now settings 2 inside statements_of shared.old result shared.new }
     {
         if settings.has_flag(ParseSettingFlags::DISALLOW_STATEMENTS_IN_BLOCKS) {
-            let statement = nested!(shared, self.parse_expr_stmt(shared, frame, settings))?;
-            return Ok(vec![in self.engine.alloc(); statement]?);
+            return self.parse_single(shared, frame, settings);
         }
         let mut inner = frame.inner(self.engine.alloc());
         let settings = settings.below_global_level();
         self.parse_statements(shared, &mut inner, settings, Closing::Brace)
+    }
+
+    // Reads the one expression of a block where blocks are single expressions. It is apart, since a function clears all
+    // its locals when it begins.
+    #[inline(never)]
+    #[tactic(auto, using(crate::proofs::StmtReaders::parse_block_inside))]
+    fn parse_single(
+        &self,
+        shared: &mut Shared<'_>,
+        frame: &Frame<'_>,
+        settings: ParseSettings,
+    ) -> ParseResult<Vec<Stmt>>
+        requires single { has_single_blocks (context_of self.now.engine.now frame.now settings) ≡ true }
+        requires lent { Covers (R.lent self.now.readers) (inside self.now.engine.now frame.now settings) shared.old }
+        ensures { ReadsAs self.now.engine.now frame.now settings 2 inside statements_of shared.old result shared.new }
+    {
+        let statement = nested!(shared, self.parse_expr_stmt(shared, frame, settings))?;
+        Ok(vec![in self.engine.alloc(); statement]?)
     }
 
     /// Reads what follows `return`, `throw` or `break`, where the settings stand: a value, exactly where the next token

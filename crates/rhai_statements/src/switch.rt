@@ -28,7 +28,7 @@ use smallvec::SmallVec;
 
 impl<R: LentReaders> Reader<'_, R> {
     /// Reads a `switch` after its keyword, where the settings stand.
-    #[tactic(auto, using(crate::proofs::ConstructReaders::parse_switch))]
+    #[tactic(auto, using(crate::proofs::ConstructReaders::parse_construct))]
     pub(crate) fn parse_switch(
         &self,
         shared: &mut Shared<'_>,

@@ -111,12 +111,13 @@ key_right t = by (lookup (at_key (word_key t)) t) refl
     by None h = sym (passes (λ t. is_found (lookup (at_key (word_key t)) t)) word_table t words_placed (ap is_found h))
     by (Some m) h = sym (part_found word_table word_table _ _ t m words_in h)
 
-places_within : agree_below (λ k. nat_le (get_or WORD_PLACES k 0) 63) (λ k. true) 512 ≡ true
+places_within : agree_below (λ k. nat_le (get_or WORD_PLACES k 0) (length word_table)) (λ k. true) 512 ≡ true
+unfolding word_table
 places_within = refl
 
-pub place_within : (k : ℕ) → k < 512 → get_or WORD_PLACES k 0 ≤ 63
-place_within k h = leb-true (get_or WORD_PLACES k 0) 63
-    (agree_below_at (λ k. nat_le (get_or WORD_PLACES k 0) 63) (λ k. true) 512 k places_within h)
+pub place_within : (k : ℕ) → k < 512 → get_or WORD_PLACES k 0 ≤ length word_table
+place_within k h = leb-true (get_or WORD_PLACES k 0) (length word_table)
+    (agree_below_at (λ k. nat_le (get_or WORD_PLACES k 0) (length word_table)) (λ k. true) 512 k places_within h)
 
 -- the same of the table of the code
 pub key_part : {B : Type 0} (f : B → Text × Meaning) (xs : List B) (places : List ℕ) (k start : ℕ) (t : Text)

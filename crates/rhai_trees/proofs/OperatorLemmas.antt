@@ -14,7 +14,7 @@ use Rattle.rhai_grammar.specs.Constructs.{guard_fault, type_fault}
 use Rattle.rhai_grammar.specs.Kinds.{not_boolean}
 use Rattle.rhai_grammar.specs.declared.role.ListKind.TheVariants as lists_of
 use Rattle.rhai_grammar.specs.declared.role.Joining.TheVariants as joins
-use Rattle.rhai_grammar.specs.Operators.{boolean_holds, joined, joining, mismatched, operator_result, operator_tree, takes_booleans}
+use Rattle.rhai_grammar.specs.Operators.{boolean_holds, joined, joined_tree, joining, mismatched, operator_call, operator_result, operator_tree, takes_booleans}
 use Rattle.rhai_trees.specs.Views.{operand_fault}
 use Rattle.rhai_lower.proofs.Views.{view_and, view_or, view_coalesce}
 
@@ -96,6 +96,13 @@ result_refused l at n m r e = refused (boolean_holds l n) (boolean_holds l m) (m
 
 pub result_taken : (l : Lexeme) (at : Position) (n m : Node) → operand_fault l n m ≡ None → operator_result l at n m ≡ Ok (operator_tree l at n m)
 result_taken l at n m e = taken (boolean_holds l n) (boolean_holds l m) (mismatched n) (mismatched m) (operator_tree l at n m) e
+
+-- an operator that is a call tests no operand
+pub call_taken : (l : Lexeme) (at : Position) (n m : Node) → joining l ≡ joins.Call → operator_result l at n m ≡ Ok (operator_call l at n m)
+call_taken l at n m e =
+    let untested : takes_booleans (joining l) ≡ false = ap takes_booleans e in
+    result_taken l at n m (fault_none l n m (holds_others l n untested) (holds_others l m untested))
+    ∙ ap (λ how. Ok (joined_tree how l at n m)) e
 
 pub answers_tree : (l : Lexeme) (at : Position) (n m : Node) (r : Result Expr ParseError) → operand_fault l n m ≡ None → IfOk r (λ e. view e ≡ operator_tree l at n m) → IfErr r (λ e. e ≡ no_memory) → Answers view (operator_result l at n m) r
 answers_tree l at n m (Ok e) none tree lost = result_taken l at n m none ∙ ap Ok (sym tree)

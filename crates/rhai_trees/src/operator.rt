@@ -7,7 +7,7 @@ ghost use Rattle.rhai_grammar.specs.Answers.{Answers};
 ghost use Rattle.rhai_grammar.specs.Causes.{MemoryIsNowhere, is_for_memory, no_memory, refusal_of};
 ghost use Rattle.rhai_grammar.specs.Operators.{boolean_holds, items, joining};
 ghost use Rattle.rhai_grammar.specs.Operators.{list_of, list_position, list_tree, mismatched, no_membership};
-ghost use Rattle.rhai_grammar.specs.Operators.{operator_result, operator_tree, part};
+ghost use Rattle.rhai_grammar.specs.Operators.{operator_call, operator_result, operator_tree, part};
 ghost use Rattle.rhai_grammar.specs.declared.role.ListKind.TheVariants.{And, Coalesce, Or};
 ghost use Rattle.rhai_trees.specs.Views.{operand_fault, part_view};
 
@@ -32,7 +32,44 @@ pub(crate) enum Part {
 ///
 /// `op_token` is the operator, `pos` its position. An operand of `&&` or `||` that cannot be a boolean gives
 /// `MismatchedType` at its start, the left one first. If memory runs out, the error is `OutOfMemory`.
+#[tactic(auto, using(crate::proofs::OperatorLemmas::call_taken))]
 pub fn make_binary(
+    alloc: Global,
+    interner: &mut StringsInterner,
+    op_token: Token,
+    pos: Position,
+    lhs: Expr,
+    rhs: Expr,
+) -> ParseResult<Expr>
+    ensures answers { Answers view (operator_result (lexeme op_token) pos (view lhs) (view rhs)) result }
+    ensures nowhere { IfErr result MemoryIsNowhere }
+{
+    match joining_of(&op_token) {
+        Joining::Call => Ok(operator_call(alloc, interner, op_token, pos, lhs, rhs)?),
+        _ => make_tested(alloc, interner, op_token, pos, lhs, rhs),
+    }
+}
+
+// The call of an operator. Returns `AllocError` if memory runs out.
+#[inline(always)]
+fn operator_call(
+    alloc: Global,
+    interner: &mut StringsInterner,
+    op_token: Token,
+    pos: Position,
+    lhs: Expr,
+    rhs: Expr,
+) -> Result<Expr, AllocError>
+    ensures { IfOk result (λ e. view e ≡ operator_call (lexeme op_token) pos (view lhs) (view rhs)) }
+{
+    let args = vec![in alloc; lhs, rhs]?;
+    native_call(alloc, interner, op_token, pos, args)
+}
+
+// `make_binary` of any operator. It is apart, since most operators are calls, whose operands are not tested, and a
+// function clears all its locals when it begins.
+#[inline(never)]
+fn make_tested(
     alloc: Global,
     interner: &mut StringsInterner,
     op_token: Token,
@@ -80,6 +117,7 @@ fn test_operand(alloc: Global, op_token: &Token, operand: &Expr) -> ParseResult<
 }
 
 // How an operator joins its operands.
+#[inline(always)]
 fn joining_of(op_token: &Token) -> Joining
     ensures { result ≡ joining (lexeme op_token.now) }
 {
@@ -109,10 +147,7 @@ fn join_operands(
         Joining::List(kind) => join_list(alloc, kind, pos, lhs, rhs),
         Joining::Membership => Ok(contains_call(alloc, None, pos, lhs, rhs)?),
         Joining::NoMembership => Ok(no_membership(alloc, interner, op_token, pos, lhs, rhs)?),
-        Joining::Call => {
-            let args = vec![in alloc; lhs, rhs]?;
-            Ok(native_call(alloc, interner, op_token, pos, args)?)
-        }
+        Joining::Call => Ok(operator_call(alloc, interner, op_token, pos, lhs, rhs)?),
     }
 }
 

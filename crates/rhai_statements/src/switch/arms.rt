@@ -3,7 +3,7 @@
 
 ghost use Rattle.std.specs.Prelude.{◌≡◌, ◌≤◌, IfErr, IfOk, true};
 ghost use Rattle.rhai_lower.specs.Nodes.{Node, block_value, made_block};
-ghost use Rattle.rhai_lower.specs.View.{statement_view, view};
+ghost use Rattle.rhai_lower.specs.View.{statement_view, view, views};
 ghost use Rattle.rhai_grammar.specs.Causes.{MemoryIsNowhere, is_for_memory};
 ghost use Rattle.rhai_grammar.specs.Cursors.{left};
 ghost use Rattle.rhai_grammar.specs.Switches.{arm_fault, ends_arm};
@@ -67,6 +67,27 @@ pub(crate) fn end_statement_action(alloc: Global, statement: Stmt) -> ParseResul
     Ok(Action { expr, ends })
 }
 
+// Tests the cases of an arm after these arms, and takes the comma after it. Both are refused here, so that the parts of
+// the arm are dropped in one place.
+#[inline(always)]
+fn test_arm(
+    alloc: Global,
+    shared: &mut Shared<'_>,
+    before: &Arms,
+    cases: &[Expr],
+    ends: bool,
+) -> ParseResult<()>
+    ensures goes_on { GoesOn shared.old shared.new }
+    ensures steady { Steady shared.old shared.new }
+    ensures gives { (call : Caller) (guard action : Node) → call (ArmEnd ends) (state_of shared.old)
+        ≡ result_of (ArmEnd ends) (state_of shared.old)
+        → Gives (λ done. (views cases.now, guard, action)) (exec call (arm_on (views cases.now) guard (action, ends)
+        (arm_fault (arms_view before.now) (views cases.now))) (state_of shared.old)) result (state_of shared.new) }
+{
+    test_cases(alloc, before, cases)?;
+    arm_continues(alloc, shared.input, ends)
+}
+
 /// An arm of these parts, whose cases are tested after these arms; the comma after it is taken.
 pub(crate) fn end_arm(
     alloc: Global,
@@ -83,8 +104,7 @@ pub(crate) fn end_arm(
         → Gives arm_view (exec call (arm_on (cases_view cases) (view guard) (action_view does)
         (arm_fault (arms_view before.now) (cases_view cases))) (state_of shared.old)) result (state_of shared.new) }
 {
-    test_cases(alloc, before, &cases)?;
-    arm_continues(alloc, shared.input, does.ends)?;
+    test_arm(alloc, shared, before, &cases, does.ends)?;
     let Action { expr, ends: _ } = does;
     Ok(Arm {
         cases,

@@ -6,6 +6,6 @@ use Rattle.rhai_cases.proofs.switch.push_value.Goals as goal
 
 pub push_keyed-requires-clause-key : goal.push_keyed-requires-clause-key
 push_keyed-requires-clause-key c =
-    plain_key (case_views c.args.cases.now.items) (view c.args.value) c.in-Some.key
-    (subst (λ o. IfSome o (λ k. is_plain k ≡ true)) c.in-Some.is c.in_ok-key.ensures.plain)
-    (ap (option_map key_value) (sym c.in-Some.is) ∙ c.in_ok-key.ensures.value)
+    plain_key (case_views c.args.cases.now.items) (view c.args.value) c.in-Ok-Some.key
+    (subst (λ o. IfSome o (λ k. is_plain k ≡ true)) c.in-Ok-Some.field-0-is c.in-Ok-Some.ensures.plain)
+    (ap (option_map key_value) (sym c.in-Ok-Some.field-0-is) ∙ c.in-Ok-Some.ensures.value)

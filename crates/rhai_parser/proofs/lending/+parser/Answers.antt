@@ -3,7 +3,7 @@ use Rattle.std.proofs.Common.{ℕ, ◌≡◌, ◌<◌, ◌∙◌, ap, arith, fal
 use Rattle.rhai_grammar.specs.Beginnings.{beginning}
 use Rattle.rhai_readers.specs.PlainPrimaries.{is_plain}
 use Rattle.rhai_reading.specs.Running.{need, next_item}
-use Rattle.rhai_readers.specs.Readers.{construct, expression, inside, primary, statement}
+use Rattle.rhai_readers.specs.Readers.{expression, inside, primary, statement}
 use Rattle.rhai_parser.proofs.lending.+parser.Goals as goal
 
 -- A need that falls below another is below what that other is measured by.
@@ -36,7 +36,7 @@ parse_stmt-parse_stmt-requires t c =
 
 pub parse_construct-parse_construct-requires : goal.parse_construct-parse_construct-requires
 parse_construct-parse_construct-requires t c =
-    let same = ap (need (construct c.args.kind c.args.engine.now c.args.frame.now c.args.settings)) c.nested-enter.ensures.enters ∙ c.decreases in record {
+    let same = c.decreases in record {
       lent = λ m below. (
         λ engine shared frame settings is. ((falls is below same, tt), λ result after told. told.1),
         λ engine shared frame settings is. ((falls is below same, tt), λ result after after_frame told. told.1),

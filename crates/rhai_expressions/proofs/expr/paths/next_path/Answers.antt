@@ -27,7 +27,7 @@ returns-then-not-branch-clause-reads c =
       readable = c.in_ok-next.ensures.name.2;
       took_on = ap (state_at c.loop-next.shared) c.in_ok-next.ensures.name.3;
       readable_on = search rules;
-      look_on = ap (state_at c.loop-next.shared) c.is_qualified.ensures.after;
+      look_on = ap (state_at c.loop-next.shared) c.is_qualified.ensures.looks.0;
     } in
     c.loop-next.invariant.same ∙ path_ends _ _ _ h (c.in_ok-name.ensures c.in_ok-next.next_pos) (search rules)
 
@@ -41,7 +41,7 @@ loop-next-preserved c =
       readable = c.in_ok-next.ensures.name.2;
       took_on = ap (state_at c.loop-next.shared) c.in_ok-next.ensures.name.3;
       readable_on = search rules;
-      look_on = ap (state_at c.loop-next.shared) c.is_qualified.ensures.after;
+      look_on = ap (state_at c.loop-next.shared) c.is_qualified.ensures.looks.0;
     } in
     let short : left (cursor_of c.is_qualified.new.input).tokens + 1 ≤ left (state_of c.loop-next.shared).cursor.tokens = search rules in
     record {

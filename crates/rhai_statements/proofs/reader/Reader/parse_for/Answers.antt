@@ -9,5 +9,5 @@ returns-in_err-body g c = record {
   stays = grind arith;
   reads =
       let p = err_from_is_err_and c.from_residual-in_err-body.result c.from_residual-in_err-body.ensures.1 in
-      rw (p.1, p.2) (grind (arith, rule.parse_for));
+      rw (p.1, p.2) (grind (arith, rule.parse_construct));
 }

@@ -1,9 +1,8 @@
 use Rattle.std.proofs.Common.{◌≡◌, arith, rules, ap, sym}
 use Rattle.rhai_lower.specs.View.{statement_view}
-use Rattle.rhai_grammar.specs.Cursors.{cursor_of}
 use Rattle.rhai_grammar.specs.Settings.{Settings}
 use Rattle.rhai_readers.specs.Frames.{context_of, live_of}
-use Rattle.rhai_readers.specs.Readers.{state_at, state_of, statement, with_live}
+use Rattle.rhai_readers.specs.Readers.{state_of, statement, with_live}
 use Rattle.rhai_readers.proofs.Given.{gives_so}
 use Rattle.rhai_readers.proofs.Heights.{room_same}
 use Rattle.rhai_statements.proofs.CommentLemmas.{function_starts}
@@ -34,10 +33,9 @@ returns-in-Function g c = record {
       let inside = context_of engine frame c.at-settings.result in
       let same : inside ≡ context = ap (λ (x : Settings). record context { settings = x }) c.at-settings.ensures.settings in
       let old = state_of c.args.shared.now in
-      let looked = state_at c.args.shared.now (cursor_of c.peek.follows.lender-at-none) in
+      let begun = c.requires.keyword in
       gives_so (with_live statement_view frame) c.parse_plain_fn.result (state_of c.parse_plain_fn.new.shared)
-      (function_starts context inside (live_of frame) c.at-settings.result.pos old looked
-      (search rules) (search rules) (sym same) (search rules) (ap (state_at c.args.shared.now) c.peek.follows.holds-at-none))
+      (function_starts context inside (live_of frame) c.at-settings.result.pos old old begun.readable (search rules) (sym same) (search rules) begun.looked)
       (c.parse_plain_fn.ensures.reads (statement engine frame c.args.settings) old (grind arith));
 }
 

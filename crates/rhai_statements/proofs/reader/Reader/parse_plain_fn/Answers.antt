@@ -23,6 +23,6 @@ returns g c = record {
       let from = state_at c.args.shared.now (cursor_of c.skip.new.input) in
       gives_so (with_live statement_view frame) c.parse_fn.result (state_of c.nested-leave.new.self)
       (plain_read h s (context_of engine frame c.args.settings) (live_of frame) comments c.args.settings.pos (state_of c.args.shared.now) from c.requires.at.readable
-      (ap (state_at c.args.shared.now) c.skip.ensures.after) (c.skip.ensures.shrinks c.requires.at.more) within)
+      (ap (state_at c.args.shared.now) c.skip.ensures.after) (c.skip.ensures.advances.1 c.requires.at.more) within)
       (nested_gives (with_live statement_view frame) read from _ _ _ c.parse_fn.result c.nested-enter.ensures.enters c.parse_fn.ensures.reads c.nested-leave.ensures.leaves);
 }

@@ -3,7 +3,7 @@ use Rattle.rhai_lower.specs.Lexemes.{lexeme}
 use Rattle.rhai_lower.specs.View.{view}
 use Rattle.rhai_grammar.specs.Causes.{refusal_of}
 use Rattle.rhai_trees.proofs.OperatorLemmas.{answers_tree, result_refused}
-use Rattle.rhai_trees.proofs.operator.make_binary.Goals as goal
+use Rattle.rhai_trees.proofs.operator.make_tested.Goals as goal
 
 pub returns-in-Ok-clause-answers : goal.returns-in-Ok-clause-answers
 returns-in-Ok-clause-answers c =
