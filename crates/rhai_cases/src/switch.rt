@@ -138,8 +138,8 @@ pub fn test_cases(alloc: Global, arms: &Arms, cases: &[Expr]) -> ParseResult<()>
 
 // ---- one more arm
 
-// The error of a value for which there is no memory. The value is dropped here, since a derived drop is expanded wherever
-// a value may be dropped, and a function clears all its locals when it begins.
+// The error of a value for which there is no memory. The value is dropped here, since a derived drop is expanded
+// wherever a value may be dropped, and a function clears all its locals when it begins.
 #[inline(never)]
 fn without(_value: Expr, error: AllocError) -> Result<(), AllocError>
     ensures { IsErr result }
