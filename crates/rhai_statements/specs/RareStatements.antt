@@ -1,4 +1,4 @@
--- Statements by how often they are read.
+-- Statements and constructs by how often they are read, and what is known where a statement begins.
 use Rattle.std.specs.Prelude.{◌≡◌, Bool, true, false, refl}
 use Rattle.rhai_lower.specs.declared.position.Position.{Position}
 use Rattle.rhai_grammar.specs.Delivered.{is_memory}
@@ -37,12 +37,13 @@ is_block construct.Block = true
 is_block _ = false
 
 example : (is_rare start.Let ≡ true) × (is_rare start.Return ≡ false) × (is_jump start.Return ≡ true)
-example = (refl, refl, refl)
+    × (is_block construct.Block ≡ true) × (is_block construct.While ≡ false)
+example = (refl, refl, refl, refl, refl)
 
 -- The next token, which is at this position, has been looked at, there was memory for it, and such a statement begins
 -- with it.
-pub record Starts (such : StatementStart → Bool) (engine : EngineValue) (frame : FrameValue) (settings : ParseSettings)
-    (start : StatementStart) (at : Position) (s : Progress) : Type 0 where
+pub record Starts (such : StatementStart → Bool) (engine : EngineValue) (frame : FrameValue)
+    (settings : ParseSettings) (start : StatementStart) (at : Position) (s : Progress) : Type 0 where
   pub looked : s ≡ after_peek s
   pub readable : is_memory (next_item s).lexeme ≡ false
   pub class : start ≡ statement_start (context_of engine frame settings) (next_item s).lexeme
