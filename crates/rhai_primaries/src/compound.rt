@@ -3,9 +3,10 @@
 ghost use Rattle.std.specs.Prelude.{◌≡◌, false};
 ghost use Rattle.rhai_grammar.specs.Beginnings.{beginning};
 ghost use Rattle.rhai_readers.specs.PlainPrimaries.{is_plain};
-ghost use Rattle.rhai_readers.specs.Readers.{Covers, ReadsAs, primary, state_of};
+ghost use Rattle.rhai_readers.specs.Readers.{primary, state_of};
 ghost use Rattle.rhai_reading.specs.Running.{next_item};
 ghost use Rattle.rhai_trees.specs.Chains.{chain_view};
+ghost use Rattle.rhai_primaries.specs.Readers.{Lends, Reads};
 
 use crate::reader::Reader;
 use rhai_base::allowed::{may_be_closure, may_be_value};
@@ -29,8 +30,8 @@ impl<R: LentReaders> Reader<'_, R> {
         settings: ParseSettings,
     ) -> ParseResult<Chain>
         requires compound { is_plain (beginning (next_item (state_of shared.old)).lexeme) ≡ false }
-        requires lent { Covers (R.lent self.now.readers) (primary self.now.engine.now frame.now settings) shared.old }
-        ensures { ReadsAs self.now.engine.now frame.now settings 1 primary chain_view shared.old result shared.new }
+        requires lent { Lends R.lent self.now primary frame.now settings shared.old }
+        ensures { Reads self.now frame.now settings 1 primary chain_view shared.old result shared.new }
     {
         let alloc = self.engine.alloc();
         let (token, pos) = peek(shared.input)?;

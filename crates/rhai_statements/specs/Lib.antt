@@ -1,3 +1,4 @@
 pub mod Switches
 pub mod RareStatements
 pub mod Statements
+pub mod Readers
