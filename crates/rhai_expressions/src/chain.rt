@@ -4,7 +4,7 @@ ghost use Rattle.std.specs.Prelude.{◌≡◌, false};
 ghost use Rattle.rhai_lower.specs.View.{view};
 ghost use Rattle.rhai_grammar.specs.Delivered.{is_end};
 ghost use Rattle.rhai_reading.specs.Running.{next_item};
-ghost use Rattle.rhai_readers.specs.Readers.{called, index, links, member, state_of};
+ghost use Rattle.rhai_readers.specs.Readers.{called, links, member, state_of};
 ghost use Rattle.rhai_trees.specs.Chains.{chain_view};
 ghost use Rattle.rhai_expressions.specs.ExprViews.{call_view, linked};
 ghost use Rattle.rhai_expressions.specs.Readers.{Lends, Reads, ReadsMember, index_of};

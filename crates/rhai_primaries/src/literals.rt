@@ -1,7 +1,7 @@
 //! The readers of arrays, of object maps and of interpolated strings.
 
 ghost use Rattle.rhai_lower.specs.Nodes.{no_nodes, no_properties};
-ghost use Rattle.rhai_readers.specs.Readers.{elements, fields, properties_of, segments};
+ghost use Rattle.rhai_readers.specs.Readers.{elements, fields, properties_of};
 ghost use Rattle.rhai_readers.specs.Readers.{views_of};
 ghost use Rattle.rhai_primaries.specs.Readers.{Lends, Reads, segments_after};
 
