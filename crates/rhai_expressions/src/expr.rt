@@ -30,7 +30,8 @@ use rhai_leaves::refusals::missing;
 use rhai_leaves::tokens::{excludes_use, is_no_argument, what_begins, what_operand};
 use rhai_lower::Expr;
 use rhai_readers::{LentReaders, Shared, nested};
-use rhai_trees::{Chain, make_statement_value};
+use rhai_trees::Chain;
+use rhai_trees::statement::make_statement_value;
 
 impl<R: LentReaders> Reader<'_, R> {
     /// Reads the path and what calls an operand, if it is a name.

@@ -18,7 +18,8 @@ use rhai_leaves::refusals::no_operand;
 use rhai_leaves::tokens::what_begins;
 use rhai_lower::Expr;
 use rhai_readers::{LentReaders, Shared, nested};
-use rhai_trees::{Chain, make_statement_value};
+use rhai_trees::Chain;
+use rhai_trees::statement::make_statement_value;
 
 impl<R: LentReaders> Reader<'_, R> {
     /// Reads an operand that is not one token, without its sign and without what calls it: a chain where it is a group.

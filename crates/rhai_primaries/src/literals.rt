@@ -17,7 +17,8 @@ use rhai_leaves::refusals::no_item;
 use rhai_leaves::strings::end_interpolation;
 use rhai_lower::{Expr, Ident, NamedList};
 use rhai_readers::{LentReaders, Shared};
-use rhai_trees::{make_block, push_segment, push_text};
+use rhai_trees::statement::make_block;
+use rhai_trees::{push_segment, push_text};
 use std::rc::RcStr;
 
 impl<R: LentReaders> Reader<'_, R> {

@@ -10,7 +10,7 @@ use rhai_grammar::ParseResult;
 use rhai_leaves::blocks::end_block;
 use rhai_lower::StmtBlock;
 use rhai_readers::{LentReaders, Shared, nested};
-use rhai_trees::make_block;
+use rhai_trees::statement::make_block;
 
 impl<R: LentReaders> Reader<'_, R> {
     /// Reads a block after its `{`, where the settings stand, up to its `}`. Its definitions end with it.

@@ -20,9 +20,8 @@ use rhai_leaves::cursor::peek;
 use rhai_leaves::due::pass_token;
 use rhai_lower::{Expr, Position, Stmt, StmtBlock};
 use rhai_readers::{LentReaders, Shared, nested};
-use rhai_trees::{
-    make_block_statement, make_do, make_for, make_if, make_try, make_while, no_block,
-};
+use rhai_trees::construct::{make_do, make_for, make_if, make_try, make_while};
+use rhai_trees::statement::{make_block_statement, no_block};
 
 impl<R: LentReaders> Reader<'_, R> {
     /// Reads a construct of this kind after its first token, where the settings stand, as a reader that counts.

@@ -13,7 +13,7 @@ ghost use Rattle.rhai_grammar.specs.Contexts.{has_single_blocks};
 ghost use Rattle.rhai_grammar.specs.Statements.{ends_itself};
 ghost use Rattle.rhai_readers.specs.Frames.{context_of};
 ghost use Rattle.rhai_statements.specs.RareStatements.{Starts, is_jump, is_rare};
-ghost use Rattle.rhai_statements.specs.Statements.{ReadsStatement};
+ghost use Rattle.rhai_readers.specs.Statements.{ReadsStatement};
 ghost use Rattle.rhai_readers.specs.Readers.{inside, jump, state_of, statements, statements_of, with_live};
 ghost use Rattle.rhai_trees.specs.Statements.{optional_view};
 ghost use Rattle.rhai_readers.specs.Heights.{function_height};
@@ -32,9 +32,10 @@ use rhai_leaves::statements::{
 };
 use rhai_lower::{Expr, Position, Stmt};
 use rhai_readers::{LentReaders, Shared, nested};
-use rhai_trees::{
-    ends_itself, make_break, make_continue, make_definition, make_expression, make_import,
-    make_jump, push_statement,
+use rhai_trees::construct::ends_itself;
+use rhai_trees::statement::{
+    make_break, make_continue, make_definition, make_expression, make_import, make_jump,
+    push_statement,
 };
 
 impl<R: LentReaders> Reader<'_, R> {
