@@ -361,7 +361,7 @@ class Reader:
         token = self.peek()
         if token == "doc":
             self.refuse_comment(self.at)
-        ends = token in {";", "{", "fn", "private", "if", "switch", "while", "loop", "for", "try"}
+        ends = token in {";", "{", "fn", "private", "if", "switch", "while", "loop", "for", "try", "defer"}
         self.statements().get(token, self.assignment)()
         self.ends = ends
 
@@ -378,6 +378,7 @@ class Reader:
             "do": self.do_loop,
             "for": self.for_loop,
             "try": self.try_catch,
+            "defer": self.loop,
             "let": self.definition,
             "const": self.definition,
             "import": self.import_module,

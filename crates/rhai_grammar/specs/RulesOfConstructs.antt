@@ -1,7 +1,7 @@
--- Productions of blocks, of `if`, of loops and of `try`.
+-- Productions of blocks, of `if`, of loops, of `try` and of `defer`.
 use Rattle.std.specs.Prelude.{Bool, None, Option, Some, codes, false, true}
 use Rattle.rhai_lower.specs.Nodes.{do_statement, for_statement, if_statement, try_catch, while_statement, Node}
-use Rattle.rhai_lower.specs.Nodes.{block_statement, braces, made_block, no_statements, one_statement, unit}
+use Rattle.rhai_lower.specs.Nodes.{block_statement, braces, deferred, made_block, no_statements, one_statement, unit}
 use Rattle.rhai_lower.specs.declared.position.Position.{Position}
 use Rattle.rhai_lower.specs.Texts.{Text, same_text}
 use Rattle.rhai_lower.specs.Positions.{nowhere}
@@ -88,12 +88,13 @@ loop_names = if_next (is_due due_token.LeftParen) (this (λ _ at. name (λ n p. 
     (give (n, Some m))))))))) (name (λ n at. due due_token.In (give (n, None))))
 
 -- a construct after its first token, by its kind
---     block_like = block | if | switch | while | loop | for | try
+--     block_like = block | if | switch | while | loop | for | try | defer
 --     while = "while" guard block
 --     loop = "loop" block
 --     do = "do" block ( "while" | "until" ) guard
 --     for = "for" ( NAME | "(" NAME "," NAME ")" ) "in" guard block
 --     try = "try" block "catch" [ "(" NAME ")" ] block
+--     defer = "defer" block
 --     switch = "switch" expression "{" { arm [ "," ] } [ "_" "=>" action [ "," ] ] "}"
 abbrev pub construct : Context → Live → Position → Kind → Production node.Statement
 construct context live at kind.Block = part (goal.Block context live at) (λ b. give (block_statement b))
@@ -112,3 +113,4 @@ construct context live at kind.For = part goal.LoopNames (λ names. part (goal.I
 construct context live at kind.Try = part (goal.Braced context live at) (λ b. part goal.Catch (λ name.
     part (goal.Braced context (catch_live (caught_name name) live) at) (λ handler.
     give (try_catch b (catch_node name) handler at))))
+construct context live at kind.Defer = part (goal.Braced context live at) (λ b. give (deferred b at))

@@ -72,6 +72,7 @@ abbrev mutual
   statement_shape (node.expression n) = node.expression (node_shape n)
   statement_shape (node.block_statement b) = node.block_statement (block_shape b)
   statement_shape (node.try_catch b n e p) = node.try_catch (block_shape b) (node_shape n) (block_shape e) nowhere
+  statement_shape (node.deferred b p) = node.deferred (block_shape b) nowhere
   statement_shape (node.break_loop v m p) = node.break_loop (optional_shape v) m nowhere
   statement_shape (node.return_statement v m p) = node.return_statement (optional_shape v) m nowhere
   statement_shape (node.import_statement n t p) = node.import_statement (node_shape n) t nowhere

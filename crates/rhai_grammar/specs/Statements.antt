@@ -34,6 +34,7 @@ sign_start token.Loop = start.Construct construct.Loop
 sign_start token.Do = start.Construct construct.Do
 sign_start token.For = start.Construct construct.For
 sign_start token.Try = start.Construct construct.Try
+sign_start token.Defer = start.Construct construct.Defer
 sign_start token.Let = start.Let
 sign_start token.Const = start.Const
 sign_start token.Return = start.Return
@@ -102,6 +103,7 @@ ends_itself (node.if_statement guard body branch p) = true
 ends_itself (node.while_statement guard body p) = true
 ends_itself (node.for_statement name counter over body p) = true
 ends_itself (node.try_catch body name branch p) = true
+ends_itself (node.deferred body p) = true
 ends_itself (node.switch_statement item arms cases ranges default p) = true
 ends_itself _ = false
 

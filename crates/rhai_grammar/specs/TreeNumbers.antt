@@ -5,7 +5,8 @@ use Rattle.std.specs.Prelude.{◌≡◌, ℕ, Bool, true, false, Option, Some, N
 use Rattle.std.specs.Prelude.{if◌then◌else◌}
 use Rattle.rhai_lower.specs.Nodes.{Arms, Block, Cases, Named, Node, Nodes, Optional, Properties, Statement}
 use Rattle.rhai_lower.specs.Nodes.{Statements, absent, array, assignment, block_statement, block_value, boolean, braces}
-use Rattle.rhai_lower.specs.Nodes.{break_loop, call, character, coalescing, conjunction, disjunction, do_statement, dot}
+use Rattle.rhai_lower.specs.Nodes.{break_loop, call, character, coalescing, conjunction, deferred, disjunction}
+use Rattle.rhai_lower.specs.Nodes.{do_statement, dot}
 use Rattle.rhai_lower.specs.Nodes.{export_statement, expression, for_statement, if_statement, import_statement, index}
 use Rattle.rhai_lower.specs.Nodes.{integer, interpolated, method_call, no_arms, no_cases, no_nodes, no_properties}
 use Rattle.rhai_lower.specs.Nodes.{no_statements, noop, object_map, one_arm, one_case, one_node, one_property}
@@ -136,6 +137,7 @@ abbrev mutual
   WellNumberedStatement names (block_statement block) = WellNumberedBlock names block
   WellNumberedStatement names (try_catch body name handler at) =
       WellNumberedBlock names body × IsHandled name × WellNumberedBlock (names_in_handler name names) handler
+  WellNumberedStatement names (deferred body at) = WellNumberedBlock names body
   WellNumberedStatement names (break_loop value breaks at) = WellNumberedOptional names value
   WellNumberedStatement names (return_statement value throws at) = WellNumberedOptional names value
   WellNumberedStatement names (import_statement source name at) = WellNumbered names source

@@ -20,6 +20,8 @@ pub enum Construct {
     For,
     /// `try`, with `catch`, which is never an operand.
     Try,
+    /// `defer`, which is never an operand.
+    Defer,
 }
 
 /// The token that a closure begins with.

@@ -5,7 +5,8 @@ use Rattle.json.specs.Token.{Token, end_object, key, null}
 use Rattle.rhai_lower.specs.Nodes
 use Rattle.rhai_lower.specs.Nodes.{Arms, Block, Cases, Node, Nodes, Optional, Properties, Statement, Statements, absent}
 use Rattle.rhai_lower.specs.Nodes.{array, assignment, block_statement, block_value, boolean, braces, break_loop, call}
-use Rattle.rhai_lower.specs.Nodes.{character, coalescing, conjunction, disjunction, do_statement, dot, export_statement}
+use Rattle.rhai_lower.specs.Nodes.{character, coalescing, conjunction, deferred, disjunction, do_statement, dot}
+use Rattle.rhai_lower.specs.Nodes.{export_statement}
 use Rattle.rhai_lower.specs.Nodes.{expression, for_statement, if_statement, import_statement, index, integer}
 use Rattle.rhai_lower.specs.Nodes.{interpolated, method_call, no_arms, no_cases, no_nodes, no_properties, no_statements}
 use Rattle.rhai_lower.specs.Nodes.{noop, object_map, one_arm, one_case, one_node, one_property, one_statement, pointer}
@@ -134,6 +135,7 @@ unfoldable mutual
   statement_weight (expression x) = node_weight x + 3
   statement_weight (block_statement b) = block_weight b + 3
   statement_weight (try_catch body x branch p) = (node_weight x + (block_weight body + block_weight branch)) + 5
+  statement_weight (deferred body p) = block_weight body + 3
   statement_weight (break_loop value breaks p) = optional_weight value + 3
   statement_weight (return_statement value throws p) = optional_weight value + 3
   statement_weight (import_statement path t p) = node_weight path + 3

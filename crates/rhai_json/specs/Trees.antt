@@ -10,7 +10,8 @@ use Rattle.rhai_lower.specs.Nodes
 use Rattle.rhai_lower.specs.Nodes.{Arms, Block, Called, Cases, Function, Named, Node, Nodes, Optional, Properties}
 use Rattle.rhai_lower.specs.Nodes.{Statement, Statements, absent, array, assignment, block_statement}
 use Rattle.rhai_lower.specs.Nodes.{block_value, boolean, braces, break_loop, call, character, coalescing, conjunction}
-use Rattle.rhai_lower.specs.Nodes.{disjunction, do_statement, dot, export_statement, expression, for_statement}
+use Rattle.rhai_lower.specs.Nodes.{deferred, disjunction, do_statement, dot, export_statement, expression}
+use Rattle.rhai_lower.specs.Nodes.{for_statement}
 use Rattle.rhai_lower.specs.Nodes.{if_statement, import_statement, index, integer, interpolated, method_call, no_arms}
 use Rattle.rhai_lower.specs.Nodes.{no_cases, no_nodes, no_properties, no_statements, noop, object_map, one_arm}
 use Rattle.rhai_lower.specs.Nodes.{one_case, one_node, one_property, one_statement, pointer, position_of, present}
@@ -61,6 +62,7 @@ statement_kind (assignment op target value p) = codes "Assignment"
 statement_kind (expression x) = codes "Expr"
 statement_kind (block_statement b) = codes "Block"
 statement_kind (try_catch body name branch p) = codes "TryCatch"
+statement_kind (deferred body p) = codes "Defer"
 statement_kind (break_loop value breaks p) = codes "BreakLoop"
 statement_kind (return_statement value throws p) = codes "Return"
 statement_kind (import_statement path name p) = codes "Import"
@@ -153,6 +155,7 @@ statement_fields (while_statement guard body p) ts = ts
 statement_fields (expression x) ts = ts
 statement_fields (block_statement b) ts = ts
 statement_fields (try_catch body name branch p) ts = ts
+statement_fields (deferred body p) ts = ts
 
 -- the key of a list, and its beginning
 abbrev pub list_start : Text → List Token → List Token
@@ -249,6 +252,8 @@ unfoldable mutual
       ts ▷ statement_begun (try_catch body name branch p) ▷ put (key (codes "expr")) ▷ node_json name
       ▷ put (key (codes "body")) ▷ block_json body ▷ put (key (codes "branch")) ▷ block_json branch
       ▷ put end_object
+  statement_json (deferred body p) ts =
+      ts ▷ statement_begun (deferred body p) ▷ put (key (codes "body")) ▷ block_json body ▷ put end_object
   statement_json (break_loop value breaks p) ts =
       ts ▷ statement_begun (break_loop value breaks p) ▷ put (key (codes "value")) ▷ value_json value
       ▷ put end_object

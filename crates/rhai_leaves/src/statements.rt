@@ -48,6 +48,7 @@ fn any_start(token: &Token) -> StatementStart
         Token::Do => StatementStart::Construct(Construct::Do),
         Token::For => StatementStart::Construct(Construct::For),
         Token::Try => StatementStart::Construct(Construct::Try),
+        Token::Defer => StatementStart::Construct(Construct::Defer),
         Token::Let => StatementStart::Let,
         Token::Const => StatementStart::Const,
         Token::Return => StatementStart::Return,

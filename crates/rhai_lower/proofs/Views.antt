@@ -7,7 +7,7 @@ use Rattle.std.specs.declared.alloc.Global.{Global}
 use Rattle.std.specs.declared.num.NonZeroUsize.{NonZeroUsize}
 use Rattle.std.specs.declared.rc.RcStr.{RcStr}
 use Rattle.rhai_lower.specs.Lexemes.{lexeme}
-use Rattle.rhai_lower.specs.Nodes.{unit, boolean, integer, character, string, interpolated, array, object_map, pointer, variable, this, property, call, method_call, dot, index, conjunction, disjunction, coalescing, block_value, one_node, one_property, one_statement, one_arm, one_case, with_node, with_property, with_statement, with_arm, with_case, noop, if_statement, switch_statement, while_statement, do_statement, for_statement, var_statement, assignment, expression, block_statement, try_catch, break_loop, return_statement, import_statement, export_statement, share, absent, present, braces}
+use Rattle.rhai_lower.specs.Nodes.{unit, boolean, integer, character, string, interpolated, array, object_map, pointer, variable, this, property, call, method_call, dot, index, conjunction, disjunction, coalescing, block_value, one_node, one_property, one_statement, one_arm, one_case, with_node, with_property, with_statement, with_arm, with_case, noop, if_statement, switch_statement, while_statement, do_statement, for_statement, var_statement, assignment, expression, block_statement, try_catch, deferred, break_loop, return_statement, import_statement, export_statement, share, absent, present, braces}
 use Rattle.rhai_lower.specs.View.{arm_views, block_view, called, case_views, named, property_views, shared_of, statement_view, statement_views, view, views}
 use Rattle.rhai_lower.specs.declared.expr.BinaryExpr.{BinaryExpr, out-BinaryExpr}
 use Rattle.rhai_lower.specs.declared.expr.Expr.{Expr, the_lemmas}
@@ -124,6 +124,9 @@ view_block_statement b = search (rules, the_lemmas)
 
 pub view_try : (b : Box FlowControl Global) (p : Position) → statement_view (stmt.TryCatch b p) ≡ try_catch (block_view (out-FlowControl (box_value b)).body) (view (out-FlowControl (box_value b)).expr) (block_view (out-FlowControl (box_value b)).branch) p
 view_try b p = search (rules, the_lemmas)
+
+pub view_defer : (b : Box StmtBlock Global) (p : Position) → statement_view (stmt.Defer b p) ≡ deferred (block_view (box_value b)) p
+view_defer b p = search (rules, the_lemmas)
 
 pub view_break_alone : (m : Bool) (p : Position) → statement_view (stmt.BreakLoop None m p) ≡ break_loop absent m p
 view_break_alone m p = search (rules, the_lemmas)

@@ -77,6 +77,7 @@ mutual
     expression : Node → Statement
     block_statement : Block → Statement
     try_catch : (body : Block) → (name : Node) → (branch : Block) → Position → Statement
+    deferred : Block → Position → Statement
     break_loop : (value : Optional) → (breaks : Bool) → Position → Statement
     return_statement : (value : Optional) → (throws : Bool) → Position → Statement
     import_statement : (path : Node) → (name : Text) → Position → Statement
@@ -199,6 +200,7 @@ statement_position (assignment op t v p) = p
 statement_position (expression n) = position_of n
 statement_position (block_statement b) = block_start b
 statement_position (try_catch b n e p) = p
+statement_position (deferred b p) = p
 statement_position (break_loop v m p) = p
 statement_position (return_statement v m p) = p
 statement_position (import_statement n t p) = p

@@ -17,7 +17,7 @@ use Rattle.rhai_lower.specs.declared.token.Token.TheVariants.{PowerOfAssign, Lef
 use Rattle.rhai_lower.specs.declared.token.Token.TheVariants.{AndAssign, OrAssign, XOrAssign, True, False, Let, Const}
 use Rattle.rhai_lower.specs.declared.token.Token.TheVariants.{If, Else, Switch, While, Loop, Do, Until, For, Break}
 use Rattle.rhai_lower.specs.declared.token.Token.TheVariants.{Continue, Return, Throw, Try, Catch, Import, Export, As}
-use Rattle.rhai_lower.specs.declared.token.Token.TheVariants.{Fn, Private, EOF}
+use Rattle.rhai_lower.specs.declared.token.Token.TheVariants.{Defer, Fn, Private, EOF}
 
 -- the strength (precedence) of a binary operator
 abbrev pub strength_of : Token → Option ℕ
@@ -143,6 +143,7 @@ literal_of Return = codes "return"
 literal_of Throw = codes "throw"
 literal_of Try = codes "try"
 literal_of Catch = codes "catch"
+literal_of Defer = codes "defer"
 literal_of Import = codes "import"
 literal_of Export = codes "export"
 literal_of As = codes "as"
@@ -226,6 +227,7 @@ kind_of_sign Continue = codes "Continue"
 kind_of_sign Return = codes "Return"
 kind_of_sign Throw = codes "Throw"
 kind_of_sign Try = codes "Try"
+kind_of_sign Defer = codes "Defer"
 kind_of_sign Catch = codes "Catch"
 kind_of_sign Import = codes "Import"
 kind_of_sign Export = codes "Export"

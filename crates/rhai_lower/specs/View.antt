@@ -168,6 +168,7 @@ statement_step (Stmt-F.Assignment op b p) = Nodes.assignment (option_map lexeme 
 statement_step (Stmt-F.Expr n) = Nodes.expression n
 statement_step (Stmt-F.Block b) = Nodes.block_statement b
 statement_step (Stmt-F.TryCatch b p) = Nodes.try_catch (box_value b).1 (box_value b).0 (box_value b).2 p
+statement_step (Stmt-F.Defer b p) = Nodes.deferred (box_value b) p
 statement_step (Stmt-F.BreakLoop v m p) = Nodes.break_loop (optional_of v) m p
 statement_step (Stmt-F.Return v m p) = Nodes.return_statement (optional_of v) m p
 statement_step (Stmt-F.Import n t p) = Nodes.import_statement (box_value n) (rc_str_bytes t) p

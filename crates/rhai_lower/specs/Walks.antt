@@ -4,7 +4,7 @@ use Rattle.std.specs.Prelude.{◌≡◌, ℕ, ◌+◌, ◌-◌, ◌^◌, List, [
 use Rattle.rhai_lower.specs.Nodes.{Arms, Block, Cases, Function, Node, Nodes, Optional, Properties, Statement}
 use Rattle.rhai_lower.specs.Nodes.{Statements}
 use Rattle.rhai_lower.specs.Nodes.{absent, array, assignment, block_statement, block_value, boolean, braces, break_loop}
-use Rattle.rhai_lower.specs.Nodes.{call, character, coalescing, conjunction, disjunction, do_statement, dot}
+use Rattle.rhai_lower.specs.Nodes.{call, character, coalescing, conjunction, deferred, disjunction, do_statement, dot}
 use Rattle.rhai_lower.specs.Nodes.{export_statement, expression, for_statement, if_statement, import_statement, index}
 use Rattle.rhai_lower.specs.Nodes.{integer, interpolated, method_call, no_arms, no_cases, no_nodes, no_properties}
 use Rattle.rhai_lower.specs.Nodes.{no_statements, noop, object_map, one_arm, one_case, one_node, one_property}
@@ -87,6 +87,7 @@ unfoldable mutual
   inside_statement d (block_statement b) = inside_block d b
   inside_statement d (try_catch b x c at) =
       ((d, block b) ∷ inside_block (deeper d) b) ++ ((d, declared x) ∷ (d, block c) ∷ inside_block (deeper d) c)
+  inside_statement d (deferred b at) = (d, block b) ∷ inside_block (deeper d) b
   inside_statement d (break_loop value breaks at) = optional_walk d value
   inside_statement d (return_statement value throws at) = optional_walk d value
   inside_statement d (import_statement x name at) = (d, node x) ∷ inside_node (deeper d) x

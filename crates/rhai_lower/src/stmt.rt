@@ -127,6 +127,8 @@ pub enum Stmt {
     Block(StmtBlock),
     /// `try`
     TryCatch(Box<FlowControl>, Position),
+    /// `defer`
+    Defer(Box<StmtBlock>, Position),
     /// `break` or `continue`
     BreakLoop {
         value: Option<Box<Expr>>,
@@ -237,6 +239,7 @@ impl Stmt {
             Stmt::Expr(expr) => expr.position(),
             Stmt::Block(block) => block.start,
             Stmt::TryCatch(_, pos) => *pos,
+            Stmt::Defer(_, pos) => *pos,
             Stmt::BreakLoop { pos, .. } => *pos,
             Stmt::Return { pos, .. } => *pos,
             Stmt::Import { pos, .. } => *pos,

@@ -237,6 +237,8 @@ pub enum Token {
     Try,
     /// `catch`
     Catch,
+    /// `defer`
+    Defer,
     /// `import`
     Import,
     /// `export`
@@ -382,6 +384,7 @@ impl Token {
             Token::Throw => "throw",
             Token::Try => "try",
             Token::Catch => "catch",
+            Token::Defer => "defer",
             Token::Import => "import",
             Token::Export => "export",
             Token::As => "as",
@@ -478,6 +481,7 @@ impl Token {
             Token::Return => "Return",
             Token::Throw => "Throw",
             Token::Try => "Try",
+            Token::Defer => "Defer",
             Token::Catch => "Catch",
             Token::Import => "Import",
             Token::Export => "Export",
@@ -622,6 +626,7 @@ fn control(text: &str) -> Option<Token>
         "return" => Token::Return,
         "throw" => Token::Throw,
         "try" => Token::Try,
+        "defer" => Token::Defer,
         "catch" => Token::Catch,
         _ => return None,
     })

@@ -169,6 +169,7 @@ impl<'a> Part<'a> {
             Stmt::Expr(expr) => Some(Part::One(Node::Expr(expr))),
             Stmt::Block(block) => Part::stmts(&block.statements),
             Stmt::TryCatch(control, _) => Some(Part::Try(control)),
+            Stmt::Defer(block, _) => Some(Part::One(Node::Block(block))),
             Stmt::BreakLoop {
                 value: Some(value),
                 ..

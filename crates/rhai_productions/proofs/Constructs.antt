@@ -42,6 +42,7 @@ same_construct c w at kind.Loop = refl
 same_construct c w at kind.Do = refl
 same_construct c w at kind.For = refl
 same_construct c w at kind.Try = refl
+same_construct c w at kind.Defer = refl
 
 -- no test of theirs refuses with an error of the last token
 pub tidy_construct : (c : Context) (w : Live) (at : Position) (k : Kind) → Tidy (P.construct c w at k)
@@ -53,6 +54,7 @@ tidy_construct c w at kind.Loop = λ b. tt
 tidy_construct c w at kind.Do = λ b n x. tt
 tidy_construct c w at kind.For = λ ns x b. tt
 tidy_construct c w at kind.Try = λ b n h. tt
+tidy_construct c w at kind.Defer = λ b. tt
 
 -- outside of closures they capture nothing
 in_loop : (c : Context) → Off c → Off (loop_body c)
@@ -67,6 +69,7 @@ quiet_construct c w at kind.Loop o = (in_loop c o, λ b. tt)
 quiet_construct c w at kind.Do o = (in_loop c o, λ b. (tt, λ n. (o, λ x. tt)))
 quiet_construct c w at kind.For o = (tt, λ ns. (o, λ x. (in_loop c o, λ b. tt)))
 quiet_construct c w at kind.Try o = (o, λ b. (tt, λ n. (o, λ h. tt)))
+quiet_construct c w at kind.Defer o = (o, λ b. tt)
 
 -- their readers stay within the room that there is
 pub height_of_construct : (c : Context) (w : Live) (at : Position) (k : Kind) → Limits c
@@ -79,6 +82,7 @@ height_of_construct c w at kind.Loop p = (p, omega (arith, in_loops c), λ b. tt
 height_of_construct c w at kind.Do p = (p, omega (arith, in_loops c), λ b. (tt, omega arith, λ n. (p, omega arith, λ x. tt)))
 height_of_construct c w at kind.For p = (tt, omega arith, λ ns. (p, omega arith, λ x. (p, omega (arith, in_loops c), λ b. tt)))
 height_of_construct c w at kind.Try p = (p, omega arith, λ b. (tt, omega arith, λ n. (p, omega arith, λ x. tt)))
+height_of_construct c w at kind.Defer p = (p, omega arith, λ b. tt)
 
 -- their refusals stand at tokens
 module _ (G : Position → Type 0) where
@@ -92,6 +96,7 @@ module _ (G : Position → Type 0) where
   position_of_construct c w at kind.Do g = (g, λ b h. (tt, λ n k. (tt, λ x j. g)))
   position_of_construct c w at kind.For g = (tt, λ ns h. (tt, λ x k. (g, λ b j. g)))
   position_of_construct c w at kind.Try g = (g, λ b h. (tt, λ n k. (g, λ x j. g)))
+  position_of_construct c w at kind.Defer g = (g, λ b h. g)
 
 -- they keep libraries orderly
 module _ (limit : ℕ) where
@@ -105,6 +110,7 @@ module _ (limit : ℕ) where
   order_of_construct c w at kind.Do b l i o = (b, o, i, λ x m r o. (b, o, tt, λ x m r o. (b, o, i, λ x m r o. (tt, o))))
   order_of_construct c w at kind.For b l i o = (b, o, tt, λ x m r o. (b, o, i, λ x m r o. (b, o, i, λ x m r o. (tt, o))))
   order_of_construct c w at kind.Try b l i o = (b, o, i, λ x m r o. (b, o, tt, λ x m r o. (b, o, i, λ x m r o. (tt, o))))
+  order_of_construct c w at kind.Defer b l i o = (b, o, i, λ x m r o. (tt, o))
 
 -- they keep the names that are used
 pub uses_of_construct : (c : Context) (w : Live) (at : Position) (k : Kind) (n : Lexeme)
@@ -118,6 +124,7 @@ uses_of_construct c w at kind.Loop n = λ b m us h. h
 uses_of_construct c w at kind.Do n = λ b m us h negated o vs j x q ts k. on (on h (still j)) (prepended k)
 uses_of_construct c w at kind.For n = λ ns m us i x o vs h b q ts k. both (after i h) k
 uses_of_construct c w at kind.Try n = λ b m us h name o vs i handler q ts k. both (on h (still i)) k
+uses_of_construct c w at kind.Defer n = λ b m us h. h
 
 -- they keep the numbers in their trees right
 pub numbers_of_construct : (c : Context) (w : Live) (at : Position) (k : Kind) (n : Lexeme) → numbered.KeepsIn (Leaves w w)
@@ -130,6 +137,7 @@ numbers_of_construct c w at kind.Loop n = λ b m h. ((tt, h), refl)
 numbers_of_construct c w at kind.Do n = λ b m h negated o j x q k. ((k, h), refl)
 numbers_of_construct c w at kind.For n = λ ns m i x o h b q k.
     ((h, subst (λ ms. WellNumberedBlock ms b) (N.looped ns.0 ns.1 w) k), refl)
+numbers_of_construct c w at kind.Defer n = λ b m h. (h, refl)
 numbers_of_construct c w at kind.Try n = λ b m h name o i handler q k.
     ((h, trees.catches name, subst (λ ms. WellNumberedBlock ms handler) (trees.handled name w) k), refl)
 
@@ -154,6 +162,7 @@ shape_of_construct c w at pos kind.For = (
     ),
   ),
 )
+shape_of_construct c w at pos kind.Defer = (braced_blocks refl, λ a b d. cc)
 shape_of_construct c w at pos kind.Try = (
   braced_blocks refl,
   λ a b d. (

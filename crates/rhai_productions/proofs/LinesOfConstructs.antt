@@ -1,4 +1,4 @@
--- Rows of lines, conditions and `try`: what is read is computed.
+-- Rows of lines, conditions, `try` and `defer`: what is read is computed.
 use Rattle.std.specs.Fmt.{digits}
 use Rattle.std.proofs.Common.{refl}
 use Rattle.rhai_grammar.specs.Prelude.{kept_after, kept_comments, last_hex_digits, module_number, names_function}
@@ -26,6 +26,7 @@ lines_of_constructs = record {
   read_14 = reads_script _ _ refl refl refl;
   read_15 = reads_script _ _ refl refl refl;
   read_16 = reads_script _ _ refl refl refl;
+  read_17 = reads_script _ _ refl refl refl;
   refused_1 = refuses _ refl refl;
   refused_2 = refuses _ refl refl;
   refused_3 = refuses _ refl refl;
@@ -60,4 +61,5 @@ lines_of_constructs = record {
   refused_32 = refuses _ refl refl;
   refused_33 = refuses _ refl refl;
   refused_34 = refuses _ refl refl;
+  refused_35 = refuses _ refl refl;
 }

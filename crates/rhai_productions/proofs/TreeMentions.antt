@@ -3,7 +3,8 @@ use Rattle.std.proofs.Common.{◌≡◌, ◌∙◌, ℕ, List, [], ◌∷◌, �
 use Rattle.std.proofs.lemmas.List.Concat.{flat_map-append}
 use Rattle.rhai_lower.specs.Nodes.{Arms, Block, Cases, Node, Nodes, Optional, Properties, Statement}
 use Rattle.rhai_lower.specs.Nodes.{Statements, absent, array, assignment, block_statement, block_value, boolean, braces}
-use Rattle.rhai_lower.specs.Nodes.{break_loop, call, character, coalescing, conjunction, disjunction, do_statement, dot}
+use Rattle.rhai_lower.specs.Nodes.{break_loop, call, character, coalescing, conjunction, deferred, disjunction}
+use Rattle.rhai_lower.specs.Nodes.{do_statement, dot}
 use Rattle.rhai_lower.specs.Nodes.{export_statement, expression, for_statement, if_statement, import_statement, index}
 use Rattle.rhai_lower.specs.Nodes.{integer, interpolated, method_call, no_arms, no_cases, no_nodes, no_properties}
 use Rattle.rhai_lower.specs.Nodes.{no_statements, noop, object_map, one_arm, one_case, one_node, one_property}
@@ -63,6 +64,7 @@ unfoldable mutual
   statement_mentions (expression x) = mentions x
   statement_mentions (block_statement block) = body_mentions block
   statement_mentions (try_catch body name handler at) = body_mentions body ++ body_mentions handler
+  statement_mentions (deferred body at) = body_mentions body
   statement_mentions (break_loop value breaks at) = optional_mentions value
   statement_mentions (return_statement value throws at) = optional_mentions value
   statement_mentions (import_statement source name at) = mentions source
@@ -145,6 +147,7 @@ mutual
   statement d (expression x) = one d x
   statement d (block_statement b) = block d b
   statement d (try_catch b x c p) = on (body d b) _ (block (deeper d) b) (block (deeper d) c)
+  statement d (deferred b p) = block (deeper d) b
   statement d (break_loop value breaks p) = optional d value
   statement d (return_statement value throws p) = optional d value
   statement d (import_statement x name p) = one d x

@@ -1,4 +1,4 @@
--- Lines of tokens that are conditions and `try`, and lines that are refused there.
+-- Lines of tokens that are conditions, `try` and `defer`, and lines that are refused there.
 use Rattle.std.specs.Prelude.{None, Some, false, true, codes, pos, [], ◌∷◌}
 use Rattle.rhai_lower.specs.Lexemes.{Integer, String, Name, Reserved, Interpolated, Faulty, Sign, UnterminatedString}
 use Rattle.rhai_lower.specs.Nodes as node
@@ -159,6 +159,12 @@ pub record LinesOfConstructs : Type 0 where
       (node.expression (node.integer (pos 2) (place 1 24))) node.no_statements) (place 1 22) (place 1 26)) (node.braces
       node.no_statements nowhere nowhere) (place 1 17)) node.no_statements) (place 1 17) nowhere) (place 1 1))
       node.no_statements) []
+  -- `defer {} [0]`
+  pub read_17 : IsScript ((Sign token.Defer, 1) ∷ (Sign token.LeftBrace, 7) ∷ (Sign token.RightBrace, 8) ∷
+      (Sign token.LeftBracket, 10) ∷ (Integer (pos 0), 11) ∷ (Sign token.RightBracket, 12) ∷ []) 13
+      (node.one_statement (node.deferred (node.braces node.no_statements (place 1 7) (place 1 8)) (place 1 1))
+      (node.one_statement (node.expression (node.array (node.one_node (node.integer (pos 0) (place 1 11)) node.no_nodes)
+      (place 1 10))) node.no_statements)) []
   -- `if )`
   pub refused_1 : Refuses script ((Sign token.If, 1) ∷ (Sign token.RightParen, 4) ∷ []) 5 (cause.BadInput
       (cause.UnexpectedInput (codes ")"))) 4
@@ -281,3 +287,6 @@ pub record LinesOfConstructs : Type 0 where
   pub refused_34 : Refuses (script_by (record new_engine { depth = 3 })) ((Sign token.If, 1) ∷ (Name (codes "a"), 4) ∷
       (Sign token.LeftBrace, 6) ∷ (Sign token.RightBrace, 7) ∷ (Sign token.Else, 9) ∷ (Sign token.If, 14) ∷
       (Name (codes "b"), 17) ∷ (Sign token.LeftBrace, 19) ∷ (Sign token.RightBrace, 20) ∷ []) 21 cause.ExprTooDeep 17
+  -- `defer { break }`
+  pub refused_35 : Refuses script ((Sign token.Defer, 1) ∷ (Sign token.LeftBrace, 7) ∷ (Sign token.Break, 9) ∷
+      (Sign token.RightBrace, 15) ∷ []) 16 cause.LoopBreak 9

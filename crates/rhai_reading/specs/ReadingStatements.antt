@@ -8,7 +8,7 @@ use Rattle.rhai_grammar.specs.Prelude.{no_assignment, catch_live, exported, impo
 use Rattle.rhai_grammar.specs.Prelude.{is_constant_use, is_equals, target_fault, ends_itself, no_variable}
 use Rattle.rhai_grammar.specs.Prelude.{statement_start, token_after_statement, missing, is_name, caught_name}
 use Rattle.rhai_grammar.specs.Prelude.{catch_node, export_tree, import_tree, with_kept, nothing_collected, switch_tree}
-use Rattle.rhai_lower.specs.Nodes.{break_loop, do_statement, for_statement, try_catch, while_statement}
+use Rattle.rhai_lower.specs.Nodes.{break_loop, deferred, do_statement, for_statement, try_catch, while_statement}
 use Rattle.rhai_lower.specs.Nodes as node
 use Rattle.rhai_grammar.specs.Causes as cause
 use Rattle.rhai_grammar.specs.declared.due.DueToken.TheVariants as due
@@ -185,6 +185,7 @@ inside_construct context live at kind.Try =
     Call (Braced context live at) (λ b. Call Catch (λ name.
     Call (Braced context (catch_live (caught_name name) live) at) (λ handler.
     Ret (try_catch b (catch_node name) handler at))))
+inside_construct context live at kind.Defer = Call (Braced context live at) (λ b. Ret (deferred b at))
 
 -- after a guard, which may be refused
 abbrev pub guard_on : Node → Option Refusal → Prog Node

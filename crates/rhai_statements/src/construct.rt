@@ -4,7 +4,7 @@ pub(crate) mod control;
 
 ghost use Rattle.std.specs.Prelude.{◌≡◌, false};
 ghost use Rattle.rhai_lower.specs.View.{block_view, statement_view, view};
-ghost use Rattle.rhai_grammar.specs.declared.role.Construct.TheVariants.{Block, Do, For, Loop, Try, While};
+ghost use Rattle.rhai_grammar.specs.declared.role.Construct.TheVariants.{Block, Defer, Do, For, Loop, Try, While};
 ghost use Rattle.rhai_readers.specs.Readers.{braced, branch, conditional};
 ghost use Rattle.rhai_readers.specs.Readers.{construct, guard, iterated};
 ghost use Rattle.rhai_statements.specs.RareStatements.{is_block};
@@ -20,7 +20,7 @@ use rhai_leaves::cursor::peek;
 use rhai_leaves::due::pass_token;
 use rhai_lower::{Expr, Position, Stmt, StmtBlock};
 use rhai_readers::{LentReaders, Shared, nested};
-use rhai_trees::construct::{make_do, make_for, make_if, make_try, make_while};
+use rhai_trees::construct::{make_defer, make_do, make_for, make_if, make_try, make_while};
 use rhai_trees::statement::{make_block_statement, no_block};
 
 impl<R: LentReaders> Reader<'_, R> {
@@ -106,7 +106,23 @@ impl<R: LentReaders> Reader<'_, R> {
             Construct::For => self.parse_for(shared, frame, settings),
             Construct::Try => self.parse_try(shared, frame, settings),
             Construct::Switch => self.parse_switch(shared, frame, settings),
+            Construct::Defer => self.parse_defer(shared, frame, settings),
         }
+    }
+
+    /// Reads a `defer` after its keyword, where the settings stand.
+    #[tactic(auto, using(crate::proofs::ConstructReaders::parse_construct))]
+    fn parse_defer(
+        &self,
+        shared: &mut Shared<'_>,
+        frame: &Frame<'_>,
+        settings: ParseSettings,
+    ) -> ParseResult<Stmt>
+        requires lent { Lends R.lent self.now (construct Defer) frame.now settings shared.old }
+        ensures { Reads self.now frame.now settings 4 (construct Defer) statement_view shared.old result shared.new }
+    {
+        let body = nested!(shared, self.parse_braces(shared, frame, settings))?;
+        Ok(make_defer(self.engine.alloc(), body, settings.pos)?)
     }
 
     /// Reads what follows `if`, where the settings stand.

@@ -1,8 +1,8 @@
-//! The nodes of `if`, loops and `try`, and which statements end by themselves.
+//! The nodes of `if`, loops, `try` and `defer`, and which statements end by themselves.
 
 ghost use Rattle.std.specs.Prelude.{◌≡◌, IfErr, IfOk, None, OnOk, Some, false, option_map, true};
 ghost use Rattle.std.specs.Rc.{rc_str_bytes};
-ghost use Rattle.rhai_lower.specs.Nodes.{do_statement, for_statement, if_statement, start_of, try_catch};
+ghost use Rattle.rhai_lower.specs.Nodes.{deferred, do_statement, for_statement, if_statement, start_of, try_catch};
 ghost use Rattle.rhai_lower.specs.Nodes.{while_statement};
 ghost use Rattle.rhai_lower.specs.View.{block_view, statement_view, view};
 ghost use Rattle.rhai_grammar.specs.Causes.{MemoryIsNowhere, MismatchedType, Says, cause_of, is_for_memory, refusal};
@@ -146,7 +146,16 @@ pub fn ends_itself(statement: &Stmt) -> bool
         | Stmt::While(_, _)
         | Stmt::For(_, _)
         | Stmt::Block(_)
-        | Stmt::TryCatch(_, _) => true,
+        | Stmt::TryCatch(_, _)
+        | Stmt::Defer(_, _) => true,
         _ => false,
     }
+}
+
+/// A `defer` at `pos`. Returns `AllocError` if memory runs out.
+#[tactic(auto, using(rhai_lower::proofs::Views::view_defer))]
+pub fn make_defer(alloc: Global, body: StmtBlock, pos: Position) -> Result<Stmt, AllocError>
+    ensures { IfOk result (λ s. statement_view s ≡ deferred (block_view body) pos) }
+{
+    Ok(Stmt::Defer(Box::new(alloc, body)?, pos))
 }

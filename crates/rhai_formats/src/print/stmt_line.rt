@@ -81,6 +81,7 @@ pub fn print_statement_line(text: &mut String, statement: &Stmt) -> Result<(), A
         Stmt::Assignment { op, pos, .. } => print_assignment(text, op, *pos),
         Stmt::Expr(_) => text.push_str("Expr\n"),
         Stmt::TryCatch(_, pos) => writeln!(text, "TryCatch {pos}"),
+        Stmt::Defer(_, pos) => writeln!(text, "Defer {pos}"),
         Stmt::BreakLoop { breaks, pos, .. } => {
             writeln!(text, "BreakLoop {pos} {}", mark("BREAK", *breaks))
         }

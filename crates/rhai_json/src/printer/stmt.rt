@@ -46,6 +46,7 @@ fn statement_kind(statement: &Stmt) -> &'static str
         Stmt::Expr(_) => "Expr",
         Stmt::Block(_) => "Block",
         Stmt::TryCatch(_, _) => "TryCatch",
+        Stmt::Defer(_, _) => "Defer",
         Stmt::BreakLoop { .. } => "BreakLoop",
         Stmt::Return { .. } => "Return",
         Stmt::Import { .. } => "Import",
@@ -149,7 +150,8 @@ fn put_statement_fields(out: &mut Out, statement: &Stmt) -> Result<(), AllocErro
         | Stmt::While(_, _)
         | Stmt::Expr(_)
         | Stmt::Block(_)
-        | Stmt::TryCatch(_, _) => Ok(()),
+        | Stmt::TryCatch(_, _)
+        | Stmt::Defer(_, _) => Ok(()),
     }
 }
 
@@ -235,6 +237,7 @@ impl<'a> Printer<'a> {
             Stmt::Assignment { operands, .. } => self.push_pair(operands),
             Stmt::Expr(expr) => self.push_member("expr", Part::Expr(expr)),
             Stmt::Block(block) => self.push_member("block", Part::Block(block)),
+            Stmt::Defer(block, _) => self.push_member("body", Part::Block(block)),
             Stmt::BreakLoop { value, .. } | Stmt::Return { value, .. } => self.push_value(value),
             Stmt::Import { path, .. } => self.push_member("path", Part::Expr(path)),
             Stmt::Noop(_) | Stmt::Export { .. } | Stmt::Share(_, _) => Ok(()),
