@@ -13,7 +13,7 @@ use rhai_grammar::role::Bars;
 use rhai_grammar::{Construct, ExprFilter, ParseError, ParseErrorType, ParseResult};
 use rhai_lower::Position;
 
-/// Whether a construct may be an operand under these settings: each kind has an option of its own, and `try` is none.
+/// Whether a construct may be an operand under these settings: a block, `if`, `switch` and loops, by an option each.
 /// `looping` is whether the engine lets scripts have loops; without, a loop is no operand either.
 pub fn may_be_value(settings: ParseSettings, looping: bool, construct: Construct) -> bool
     ensures { (context : Context) → context.settings ≡ settings_of settings → looping ≡ allows_looping context
@@ -26,7 +26,7 @@ pub fn may_be_value(settings: ParseSettings, looping: bool, construct: Construct
         Construct::While | Construct::Loop | Construct::Do | Construct::For => {
             looping && settings.has_option(LangOptions::LOOP_EXPR)
         }
-        Construct::Try => false,
+        _ => false,
     }
 }
 

@@ -2,3 +2,4 @@ pub mod NextOperators
 pub mod Runs
 pub mod ExprViews
 pub mod Operands
+pub mod Readers

@@ -1,14 +1,13 @@
 //! Readers of links after an operand, and of calls. Links are brackets and dots.
 
-ghost use Rattle.std.specs.Prelude.{◌≡◌, false, option_map};
+ghost use Rattle.std.specs.Prelude.{◌≡◌, false};
 ghost use Rattle.rhai_lower.specs.View.{view};
 ghost use Rattle.rhai_grammar.specs.Delivered.{is_end};
 ghost use Rattle.rhai_reading.specs.Running.{next_item};
-ghost use Rattle.rhai_readers.specs.Parts.{ReadsSuch};
-ghost use Rattle.rhai_readers.specs.Readers.{Covers, ReadsAs, called, index, links, member, state_of};
+ghost use Rattle.rhai_readers.specs.Readers.{called, links, member, state_of};
 ghost use Rattle.rhai_trees.specs.Chains.{chain_view};
-ghost use Rattle.rhai_trees.specs.Linked.{is_linked};
 ghost use Rattle.rhai_expressions.specs.ExprViews.{call_view, linked};
+ghost use Rattle.rhai_expressions.specs.Readers.{Lends, Reads, ReadsMember, index_of};
 
 use crate::expr::asks::end_index;
 use crate::reader::Reader;
@@ -36,10 +35,8 @@ impl<R: LentReaders> Reader<'_, R> {
         settings: ParseSettings,
         qualified: bool,
     ) -> ParseResult<Call>
-        requires lent { Covers (R.lent self.now.readers) (called qualified self.now.engine.now frame.now settings)
-            shared.old }
-        ensures { ReadsAs self.now.engine.now frame.now settings 1 (called qualified) call_view shared.old result
-            shared.new }
+        requires lent { Lends R.lent self.now (called qualified) frame.now settings shared.old }
+        ensures { Reads self.now frame.now settings 1 (called qualified) call_view shared.old result shared.new }
     {
         let (token, pos) = peek(shared.input)?;
         let pos = *pos;
@@ -83,10 +80,8 @@ impl<R: LentReaders> Reader<'_, R> {
         settings: ParseSettings,
         lhs: &Chain,
     ) -> ParseResult<Vec<Link>>
-        requires lent { Covers (R.lent self.now.readers)
-            (links (chain_view lhs.now) self.now.engine.now frame.now settings) shared.old }
-        ensures { ReadsAs self.now.engine.now frame.now settings 0 (links (chain_view lhs.now)) linked shared.old result
-            shared.new }
+        requires lent { Lends R.lent self.now (links (chain_view lhs.now)) frame.now settings shared.old }
+        ensures { Reads self.now frame.now settings 0 (links (chain_view lhs.now)) linked shared.old result shared.new }
     {
         let (token, _) = peek(shared.input)?;
         match what_links(token) {
@@ -107,10 +102,8 @@ impl<R: LentReaders> Reader<'_, R> {
         settings: ParseSettings,
         lhs: &Chain,
     ) -> ParseResult<Vec<Link>>
-        requires lent { Covers (R.lent self.now.readers)
-            (links (chain_view lhs.now) self.now.engine.now frame.now settings) shared.old }
-        ensures { ReadsAs self.now.engine.now frame.now settings 0 (links (chain_view lhs.now)) linked shared.old result
-            shared.new }
+        requires lent { Lends R.lent self.now (links (chain_view lhs.now)) frame.now settings shared.old }
+        ensures { Reads self.now frame.now settings 0 (links (chain_view lhs.now)) linked shared.old result shared.new }
     {
         let mut settings = settings;
         let mut brackets = settings;
@@ -166,10 +159,8 @@ impl<R: LentReaders> Reader<'_, R> {
         settings: ParseSettings,
         indexed: Option<&Chain>,
     ) -> ParseResult<Expr>
-        requires lent { Covers (R.lent self.now.readers)
-            (index (option_map (λ x. chain_view x.now) indexed) self.now.engine.now frame.now settings) shared.old }
-        ensures { ReadsAs self.now.engine.now frame.now settings 1
-            (index (option_map (λ x. chain_view x.now) indexed.entry)) view shared.old result shared.new }
+        requires lent { Lends R.lent self.now (index_of indexed) frame.now settings shared.old }
+        ensures { Reads self.now frame.now settings 1 (index_of indexed.entry) view shared.old result shared.new }
     {
         let index = self
             .readers
@@ -186,9 +177,8 @@ impl<R: LentReaders> Reader<'_, R> {
         settings: ParseSettings,
     ) -> ParseResult<Expr>
         requires seen { is_end (next_item (state_of shared.old)).lexeme ≡ false }
-        requires lent { Covers (R.lent self.now.readers) (member self.now.engine.now frame.now settings) shared.old }
-        ensures { ReadsSuch self.now.engine.now frame.now settings 2 member view (λ x. is_linked (view x) ≡ false)
-            shared.old result shared.new }
+        requires lent { Lends R.lent self.now member frame.now settings shared.old }
+        ensures { ReadsMember self.now frame.now settings shared.old result shared.new }
     {
         let (token, pos) = peek(shared.input)?;
         let pos = *pos;

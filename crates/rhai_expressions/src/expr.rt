@@ -7,13 +7,14 @@ pub(crate) mod runs;
 ghost use Rattle.std.specs.Prelude.{◌≡◌, true};
 ghost use Rattle.rhai_lower.specs.Nodes.{no_nodes};
 ghost use Rattle.rhai_readers.specs.Frames.{context_of, live_of};
-ghost use Rattle.rhai_expressions.specs.Operands.{Counted, EndsHere, NoEnds, operand_ends};
-ghost use Rattle.rhai_readers.specs.Parts.{Begins, ReadsPart};
-ghost use Rattle.rhai_readers.specs.Readers.{Covers, ReadsAs, arguments, expression, items};
+ghost use Rattle.rhai_expressions.specs.Operands.{Counted, EndsHere, NoEnds};
+ghost use Rattle.rhai_readers.specs.Parts.{Begins};
+ghost use Rattle.rhai_readers.specs.Readers.{arguments, expression, items};
 ghost use Rattle.rhai_readers.specs.Readers.{operand, postfix};
 ghost use Rattle.rhai_readers.specs.Readers.{right_operand, state_of, views_of};
 ghost use Rattle.rhai_readers.specs.PlainPrimaries.{is_plain};
 ghost use Rattle.rhai_trees.specs.Chains.{chain_view};
+ghost use Rattle.rhai_expressions.specs.Readers.{Lends, Reads, ReadsEnds};
 
 use crate::expr::asks::{as_variable, end_operand, end_plain, ends_here, sign_operand};
 use crate::expr::paths::{NamedOperand, named_operand};
@@ -29,7 +30,8 @@ use rhai_leaves::refusals::missing;
 use rhai_leaves::tokens::{excludes_use, is_no_argument, what_begins, what_operand};
 use rhai_lower::Expr;
 use rhai_readers::{LentReaders, Shared, nested};
-use rhai_trees::{Chain, make_statement_value};
+use rhai_trees::Chain;
+use rhai_trees::statement::make_statement_value;
 
 impl<R: LentReaders> Reader<'_, R> {
     /// Reads the path and what calls an operand, if it is a name.
@@ -41,10 +43,9 @@ impl<R: LentReaders> Reader<'_, R> {
         settings: ParseSettings,
         operand: Chain,
     ) -> ParseResult<Chain>
-        requires lent { Covers (R.lent self.now.readers)
-            (postfix (chain_view operand) self.now.engine.now frame.now settings) shared.old }
-        ensures { ReadsAs self.now.engine.now frame.now settings 2 (postfix (chain_view operand)) chain_view shared.old
-            result shared.new }
+        requires lent { Lends R.lent self.now (postfix (chain_view operand)) frame.now settings shared.old }
+        ensures { Reads self.now frame.now settings 2 (postfix (chain_view operand)) chain_view shared.old result
+            shared.new }
     {
         if !excludes_use(shared.input)? {
             return Ok(operand);
@@ -64,10 +65,9 @@ impl<R: LentReaders> Reader<'_, R> {
         settings: ParseSettings,
         operand: Chain,
     ) -> ParseResult<Chain>
-        requires lent { Covers (R.lent self.now.readers)
-            (postfix (chain_view operand) self.now.engine.now frame.now settings) shared.old }
-        ensures { ReadsAs self.now.engine.now frame.now settings 2 (postfix (chain_view operand)) chain_view shared.old
-            result shared.new }
+        requires lent { Lends R.lent self.now (postfix (chain_view operand)) frame.now settings shared.old }
+        ensures { Reads self.now frame.now settings 2 (postfix (chain_view operand)) chain_view shared.old result
+            shared.new }
     {
         let alloc = self.engine.alloc();
         let (name, pos) = match as_variable(alloc, operand) {
@@ -100,8 +100,8 @@ impl<R: LentReaders> Reader<'_, R> {
         frame: &Frame<'_>,
         settings: ParseSettings,
     ) -> ParseResult<Vec<Expr>>
-        requires lent { Covers (R.lent self.now.readers) (arguments self.now.engine.now frame.now settings) shared.old }
-        ensures { ReadsAs self.now.engine.now frame.now settings 0 arguments views_of shared.old result shared.new }
+        requires lent { Lends R.lent self.now arguments frame.now settings shared.old }
+        ensures { Reads self.now frame.now settings 0 arguments views_of shared.old result shared.new }
     {
         let (token, pos) = peek(shared.input)?;
         if is_no_argument(token) {
@@ -124,10 +124,8 @@ impl<R: LentReaders> Reader<'_, R> {
         frame: &Frame<'_>,
         settings: ParseSettings,
     ) -> ParseResult<Vec<Expr>>
-        requires lent { Covers (R.lent self.now.readers) (items no_nodes self.now.engine.now frame.now settings)
-            shared.old }
-        ensures { ReadsAs self.now.engine.now frame.now settings 1 (items no_nodes) views_of shared.old result
-            shared.new }
+        requires lent { Lends R.lent self.now (items no_nodes) frame.now settings shared.old }
+        ensures { Reads self.now frame.now settings 1 (items no_nodes) views_of shared.old result shared.new }
     {
         let mut items = Vec::new(self.engine.alloc());
         loop {
@@ -156,10 +154,8 @@ impl<R: LentReaders> Reader<'_, R> {
         settings: ParseSettings,
         place: OperandRole,
     ) -> ParseResult<Chain>
-        requires lent { Covers (R.lent self.now.readers) (right_operand place self.now.engine.now frame.now settings)
-            shared.old }
-        ensures { ReadsAs self.now.engine.now frame.now settings 4 (right_operand place) chain_view shared.old
-            result shared.new }
+        requires lent { Lends R.lent self.now (right_operand place) frame.now settings shared.old }
+        ensures { Reads self.now frame.now settings 4 (right_operand place) chain_view shared.old result shared.new }
     {
         let alloc = self.engine.alloc();
         let (token, pos) = peek(shared.input)?;
@@ -191,8 +187,8 @@ impl<R: LentReaders> Reader<'_, R> {
         frame: &Frame<'_>,
         settings: ParseSettings,
     ) -> ParseResult<Chain>
-        requires lent { Covers (R.lent self.now.readers) (operand self.now.engine.now frame.now settings) shared.old }
-        ensures { ReadsAs self.now.engine.now frame.now settings 3 operand chain_view shared.old result shared.new }
+        requires lent { Lends R.lent self.now operand frame.now settings shared.old }
+        ensures { Reads self.now frame.now settings 3 operand chain_view shared.old result shared.new }
     {
         let (token, _) = peek(shared.input)?;
         let begins = what_begins(token);
@@ -226,8 +222,8 @@ impl<R: LentReaders> Reader<'_, R> {
         begins: Beginning,
     ) -> ParseResult<Chain>
         requires begins { Begins begins (state_of shared.old) × (is_plain begins ≡ true) }
-        requires lent { Covers (R.lent self.now.readers) (operand self.now.engine.now frame.now settings) shared.old }
-        ensures { ReadsAs self.now.engine.now frame.now settings 3 operand chain_view shared.old result shared.new }
+        requires lent { Lends R.lent self.now operand frame.now settings shared.old }
+        ensures { Reads self.now frame.now settings 3 operand chain_view shared.old result shared.new }
     {
         let primary = nested!(shared, self.parse_primary(shared, frame, settings, begins))?;
         self.parse_ends(shared, frame, settings, primary)
@@ -244,8 +240,8 @@ impl<R: LentReaders> Reader<'_, R> {
         begins: Beginning,
     ) -> ParseResult<Chain>
         requires begins { Begins begins (state_of shared.old) }
-        requires lent { Covers (R.lent self.now.readers) (operand self.now.engine.now frame.now settings) shared.old }
-        ensures { ReadsAs self.now.engine.now frame.now settings 3 operand chain_view shared.old result shared.new }
+        requires lent { Lends R.lent self.now operand frame.now settings shared.old }
+        ensures { Reads self.now frame.now settings 3 operand chain_view shared.old result shared.new }
     {
         match begins {
             Beginning::Sign => {
@@ -295,10 +291,8 @@ impl<R: LentReaders> Reader<'_, R> {
         primary: Chain,
     ) -> ParseResult<Chain>
         requires counted { Counted (state_of shared.old) }
-        requires lent { Covers (R.lent self.now.readers) (operand self.now.engine.now frame.now settings) shared.old }
-        ensures { ReadsPart self.now.engine.now frame.now settings 3 (operand self.now.engine.now frame.now settings)
-            (operand_ends (context_of self.now.engine.now frame.now settings) (live_of frame.now) (chain_view primary))
-            chain_view shared.old result shared.new }
+        requires lent { Lends R.lent self.now operand frame.now settings shared.old }
+        ensures { ReadsEnds self.now frame.now settings primary shared.old result shared.new }
     {
         if !ends_here(shared)? {
             return match self.parse_all_ends(shared, frame, settings, primary) {
@@ -320,10 +314,8 @@ impl<R: LentReaders> Reader<'_, R> {
         settings: ParseSettings,
         primary: Chain,
     ) -> ParseResult<Chain>
-        requires lent { Covers (R.lent self.now.readers) (operand self.now.engine.now frame.now settings) shared.old }
-        ensures { ReadsPart self.now.engine.now frame.now settings 3 (operand self.now.engine.now frame.now settings)
-            (operand_ends (context_of self.now.engine.now frame.now settings) (live_of frame.now) (chain_view primary))
-            chain_view shared.old result shared.new }
+        requires lent { Lends R.lent self.now operand frame.now settings shared.old }
+        ensures { ReadsEnds self.now frame.now settings primary shared.old result shared.new }
     {
         let operand = nested!(shared, self.parse_postfix(shared, frame, settings, primary))?;
         match self.parse_links(shared, frame, settings, &operand) {
@@ -340,9 +332,8 @@ impl<R: LentReaders> Reader<'_, R> {
         frame: &Frame<'_>,
         settings: ParseSettings,
     ) -> ParseResult<Chain>
-        requires lent { Covers (R.lent self.now.readers) (expression self.now.engine.now frame.now settings)
-            shared.old }
-        ensures { ReadsAs self.now.engine.now frame.now settings 0 expression chain_view shared.old result shared.new }
+        requires lent { Lends R.lent self.now expression frame.now settings shared.old }
+        ensures { Reads self.now frame.now settings 0 expression chain_view shared.old result shared.new }
     {
         let (_, pos) = peek(shared.input)?;
         let settings = settings.at(*pos).level_up()?;

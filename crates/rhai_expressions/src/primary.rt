@@ -4,10 +4,11 @@
 pub(crate) mod asks;
 
 ghost use Rattle.std.specs.Prelude.{◌≡◌, true};
-ghost use Rattle.rhai_readers.specs.Readers.{ReadsAs, primary, state_of};
+ghost use Rattle.rhai_readers.specs.Readers.{primary, state_of};
 ghost use Rattle.rhai_readers.specs.Parts.{Begins};
 ghost use Rattle.rhai_readers.specs.PlainPrimaries.{is_plain};
 ghost use Rattle.rhai_trees.specs.Chains.{chain_view};
+ghost use Rattle.rhai_expressions.specs.Readers.{Reads};
 
 use crate::primary::asks::{take_value, used_name, used_word};
 use crate::reader::Reader;
@@ -30,8 +31,7 @@ impl<R: LentReaders> Reader<'_, R> {
         begins: Beginning,
     ) -> ParseResult<Chain>
         requires { Begins begins (state_of shared.old) × (is_plain begins ≡ true) }
-        ensures reads { ReadsAs self.now.engine.now frame.now settings 0 primary chain_view shared.old result
-            shared.new }
+        ensures reads { Reads self.now frame.now settings 0 primary chain_view shared.old result shared.new }
         ensures counts { shared.new.counts ≡ shared.old.counts }
     {
         let alloc = self.engine.alloc();

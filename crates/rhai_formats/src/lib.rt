@@ -10,7 +10,6 @@ mod literal;
 pub mod number;
 pub mod print;
 pub mod refused;
-mod symbol;
 
 pub use answer::{answered, refusal};
 pub use escape::Escaped;

@@ -5,8 +5,7 @@ ghost use Rattle.rhai_lower.specs.Entries.{may_be_delivered};
 
 use crate::escape::unescape;
 use crate::number::{decimal, integer};
-use crate::symbol::symbol;
-use rhai_lower::{Entry, LexError, Position, Token};
+use rhai_lower::{Entry, LexError, Position, Token, symbol};
 use std::alloc::{AllocError, AllocFailed, Global};
 use std::rc::{Rc, RcStr};
 use std::str;

@@ -28,13 +28,16 @@ may_stand context construct.For = allows_looping context
 may_stand context _ = true
 
 -- A construct may be an operand: a block, `if` and `switch` by an option each; the loops by one that they share, where
--- the engine lets scripts have loops; `try` never.
+-- the engine lets scripts have loops; no other.
 abbrev pub may_be_value : Context → Construct → Bool
 may_be_value context construct.Block = has_block_values context
 may_be_value context construct.If = has_if_values context
 may_be_value context construct.Switch = has_switch_values context
-may_be_value context construct.Try = false
-may_be_value context _ = has_loop_values context
+may_be_value context construct.While = has_loop_values context
+may_be_value context construct.Loop = has_loop_values context
+may_be_value context construct.Do = has_loop_values context
+may_be_value context construct.For = has_loop_values context
+may_be_value context _ = false
 
 -- where this token may not stand, for this cause
 abbrev pub refused_there : DueToken → Cause → Lexeme → Verdict

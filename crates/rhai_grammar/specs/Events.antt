@@ -1,5 +1,5 @@
 -- The tokens of a form, and what happens in it in written order. No clause is one of a production.
-use Rattle.std.specs.Prelude.{Bool, List, [], ◌∷◌, ◌++◌, map, if◌then◌else◌, ◌≡◌, ◌||◌, not}
+use Rattle.std.specs.Prelude.{Bool, Option, List, [], ◌∷◌, ◌++◌, map, if◌then◌else◌, ◌≡◌, ◌||◌, not}
 use Rattle.rhai_lower.specs.Lexemes.{Lexeme, Sign}
 use Rattle.rhai_lower.specs.declared.position.Position.{Position}
 use Rattle.rhai_grammar.specs.Delivered.{item, Mode, code, text, Taken}
@@ -8,15 +8,15 @@ use Rattle.rhai_grammar.specs.Libraries.{Ended, Library, with_ended, is_function
 use Rattle.rhai_grammar.specs.Goals.{Goal, Val}
 use Rattle.rhai_grammar.specs.Productions.{Production}
 use Rattle.rhai_grammar.specs.Forms.{given, take, this, if_so, if_not, choose, here, must, knows, adds, uses, captures}
-use Rattle.rhai_grammar.specs.Forms.{part, literal, apart, in_text, form, Form, Filled, Open, Stopped, demands}
-use Rattle.rhai_grammar.specs.Forms.{demanded, stops, stopped}
+use Rattle.rhai_grammar.specs.Forms.{part, literal, apart, in_text, form, open_form, never_here, take_here, must_here}
+use Rattle.rhai_grammar.specs.Forms.{knows_here, uses_here, captures_here, part_here, literal_here, apart_here}
+use Rattle.rhai_grammar.specs.Forms.{brace_here, text_here, Form, Filled, Open, FilledIn}
 use Rattle.std.specs.List.{fold}
 use Rattle.std.specs.Option.{is_some}
 use Rattle.rhai_lower.specs.Texts.{Text}
 use Rattle.rhai_lower.specs.Slots.{SlotValue}
 use Rattle.rhai_grammar.specs.Slots.{number}
 use Rattle.rhai_lower.specs.declared.token.Token.TheVariants as token
-use Rattle.rhai_grammar.specs.Forms as F
 
 -- what happens in a form, for the closure around it and for the library
 pub data Event : Type 0 where
@@ -75,57 +75,39 @@ module _ (rule : (g : Goal) → Production (Val g)) where
     pub events : {g : Goal} {x : Val g} → Form rule g x → List Event
     events (form f) = events_in f
 
-    pub events_in : {h : Goal} {p : Production (Val h)} {x : Val h} → Filled rule h p x → List Event
+    -- what happens in an open form, up to the demand that is missed
+    pub stop_events : {g : Goal} → Open rule g → List Event
+    stop_events (open_form f) = events_in f
+
+    pub events_in : {h : Goal} {p : Production (Val h)} {r : Option (Val h)} → FilledIn rule h p r → List Event
     events_in given = []
+    events_in never_here = []
     events_in (take l at f) = events_in f
+    events_in take_here = []
     events_in (this l at f) = events_in f
     events_in (if_so f) = events_in f
     events_in (if_not f) = events_in f
     events_in (choose l at f) = events_in f
     events_in (here l at f) = events_in f
     events_in (must f) = events_in f
+    events_in must_here = []
     events_in (knows f) = events_in f
+    events_in knows_here = []
     events_in (adds {f = x} f) = HasEnded x ∷ events_in f
     events_in (uses {c = c} {u = u} l at f) = Used (λ fs. c fs l) u ∷ events_in f
+    events_in uses_here = []
     events_in (captures {c = c} {u = u} f) = Used c u ∷ events_in f
+    events_in captures_here = []
     events_in (part v f rest) = events f ++ events_in rest
+    events_in (part_here f) = stop_events f
     events_in (literal v f rest) = events f ++ events_in rest
+    events_in (literal_here f) = stop_events f
     -- the names in a closure are its own
     events_in (apart v us n f rest) = ends_only (events f) ++ events_in rest
+    events_in (apart_here f) = stop_events f
     events_in (in_text closing l at f) = events_in f
-
-  abbrev mutual
-    -- what happens in an open form, up to the demand that is missed
-    pub stop_events : {g : Goal} → Open rule g → List Event
-    stop_events (F.open_form f) = stop_events_in f
-
-    pub stop_events_in : {h : Goal} {p : Production (Val h)} → Stopped rule h p → List Event
-    stop_events_in F.never_here = []
-    stop_events_in F.take_here = []
-    stop_events_in F.must_here = []
-    stop_events_in F.knows_here = []
-    stop_events_in F.uses_here = []
-    stop_events_in F.captures_here = []
-    stop_events_in F.brace_here = []
-    stop_events_in (F.text_here closing) = []
-    stop_events_in (F.part_here f) = stop_events f
-    stop_events_in (F.literal_here f) = stop_events f
-    stop_events_in (F.apart_here f) = stop_events f
-    stop_events_in (F.take l at f) = stop_events_in f
-    stop_events_in (F.this l at f) = stop_events_in f
-    stop_events_in (F.if_so f) = stop_events_in f
-    stop_events_in (F.if_not f) = stop_events_in f
-    stop_events_in (F.choose l at f) = stop_events_in f
-    stop_events_in (F.here l at f) = stop_events_in f
-    stop_events_in (F.must f) = stop_events_in f
-    stop_events_in (F.knows f) = stop_events_in f
-    stop_events_in (F.adds {f = x} f) = HasEnded x ∷ stop_events_in f
-    stop_events_in (F.uses {c = c} {u = u} l at f) = Used (λ fs. c fs l) u ∷ stop_events_in f
-    stop_events_in (F.captures {c = c} {u = u} f) = Used c u ∷ stop_events_in f
-    stop_events_in (F.part v f rest) = events f ++ stop_events_in rest
-    stop_events_in (F.literal v f rest) = events f ++ stop_events_in rest
-    stop_events_in (F.apart v us n f rest) = ends_only (events f) ++ stop_events_in rest
-    stop_events_in (F.in_text closing l at f) = stop_events_in f
+    events_in brace_here = []
+    events_in (text_here closing) = []
 
 -- After a refusal the functions are those before, and the first of those that end in the form.
 pub record HoldsFirst (before : Library) (ended : List Ended) (after : Library) : Type 0 where

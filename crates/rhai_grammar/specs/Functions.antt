@@ -1,12 +1,14 @@
 -- Functions: where they are allowed, their parts, and what they give.
-use Rattle.std.specs.Prelude.{◌+◌, Bool, true, false, ◌++◌, not, Option, List, [], codes, length}
-use Rattle.std.specs.Prelude.{if◌then◌else◌, map, nat_lt}
+use Rattle.std.specs.Prelude.{◌≡◌, ◌+◌, Bool, true, false, ◌++◌, not, Option, List, [], codes, length}
+use Rattle.std.specs.Prelude.{if◌then◌else◌, map, nat_lt, refl}
+use Rattle.std.specs.Char.{is_ascii_lowercase}
+use Rattle.std.specs.List.{list_any}
 use Rattle.rhai_lower.specs.Texts.{Text, same_text}
 use Rattle.rhai_lower.specs.Names.{is_function_name}
 use Rattle.rhai_lower.specs.Lexemes.{Faulty, Lexeme, Name, Reserved, Sign, String, text_of}
 use Rattle.rhai_lower.specs.Nodes.{Block}
 use Rattle.rhai_lower.specs.declared.position.Position.{Position}
-use Rattle.rhai_lower.specs.declared.token.Token.{Token}
+use Rattle.rhai_lower.specs.Tokens.{literal_of}
 use Rattle.rhai_lower.specs.declared.token.Token.TheVariants as token
 use Rattle.rhai_lower.specs.Slots.{fresh_slot}
 use Rattle.rhai_grammar.specs.Causes as cause
@@ -77,38 +79,14 @@ abbrev pub no_parameters : (function : Text) → Lexeme → Cause
 no_parameters function (Faulty f) = cause.BadInput (cause.Lexer f)
 no_parameters function l = cause.FnMissingParams function
 
--- a keyword of the language
-abbrev is_keyword_sign : Token → Bool
-is_keyword_sign token.True = true
-is_keyword_sign token.False = true
-is_keyword_sign token.Let = true
-is_keyword_sign token.Const = true
-is_keyword_sign token.If = true
-is_keyword_sign token.Else = true
-is_keyword_sign token.Switch = true
-is_keyword_sign token.While = true
-is_keyword_sign token.Loop = true
-is_keyword_sign token.Do = true
-is_keyword_sign token.Until = true
-is_keyword_sign token.For = true
-is_keyword_sign token.In = true
-is_keyword_sign token.NotIn = true
-is_keyword_sign token.Break = true
-is_keyword_sign token.Continue = true
-is_keyword_sign token.Return = true
-is_keyword_sign token.Throw = true
-is_keyword_sign token.Try = true
-is_keyword_sign token.Catch = true
-is_keyword_sign token.Import = true
-is_keyword_sign token.Export = true
-is_keyword_sign token.As = true
-is_keyword_sign token.Fn = true
-is_keyword_sign token.Private = true
-is_keyword_sign _ = false
-
+-- a keyword of the language: it has a small letter, as no other token without payload has
 abbrev pub is_keyword : Lexeme → Bool
-is_keyword (Sign t) = is_keyword_sign t
+is_keyword (Sign t) = list_any is_ascii_lowercase (literal_of t)
 is_keyword _ = false
+
+example : (is_keyword (Sign token.NotIn) ≡ true) × (is_keyword (Sign token.Underscore) ≡ false)
+    × (is_keyword (Sign token.EOF) ≡ false)
+example = (refl, refl, refl)
 
 abbrev pub place_by : AfterPart → ItemRole
 place_by after.Close = place.End

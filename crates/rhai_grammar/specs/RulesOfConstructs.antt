@@ -88,6 +88,7 @@ loop_names = if_next (is_due due_token.LeftParen) (this (λ _ at. name (λ n p. 
     (give (n, Some m))))))))) (name (λ n at. due due_token.In (give (n, None))))
 
 -- a construct after its first token, by its kind
+--     block_like = block | if | switch | while | loop | for | try
 --     while = "while" guard block
 --     loop = "loop" block
 --     do = "do" block ( "while" | "until" ) guard

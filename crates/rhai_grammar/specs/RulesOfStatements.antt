@@ -104,7 +104,7 @@ loops context at p = must (is_in_loop context) (refusal cause.LoopBreak at) p
 
 -- a statement, by what its first token begins; raises of the level are refused at that token
 --     statement = plain | closed
---     closed = ";" | block | if | switch | while | loop | for | try | function
+--     closed = ";" | block_like | function
 --     plain = assignment | do | definition | jump | import | export
 abbrev pub statement_by : Context → Live → StatementStart → Production (node.Statement × Live)
 statement_by context live start.Empty = this (λ _ at. give (noop at, live))

@@ -4,13 +4,10 @@
 mod cases;
 mod diagnostic;
 mod errors;
-mod expr;
 mod fields;
 mod names;
 mod out;
 mod printer;
-mod stmt;
-mod token_kind;
 mod tokens;
 mod tree;
 

@@ -4,26 +4,17 @@
 ghost use Rattle.std.specs.Prelude.{◌≡◌, ◌<◌, ◌+◌, ◌∷◌, [], List, OnOk, codes, string_bytes};
 ghost use Rattle.json.specs.Print.{print};
 ghost use Rattle.json.specs.Token.{Token};
-ghost use Rattle.rhai_lower.specs.View.{arm_views, block_view, case_views, property_views, statement_view};
-ghost use Rattle.rhai_lower.specs.View.{statement_views, view, views};
+ghost use Rattle.rhai_lower.specs.View.{arm_views, block_view, case_views, property_views, statement_views, view, views};
 ghost use Rattle.rhai_lower.specs.declared.expr.BinaryExpr.{out-BinaryExpr};
-ghost use Rattle.rhai_lower.specs.declared.stmt.FlowControl.{out-FlowControl};
-ghost use Rattle.rhai_lower.specs.declared.stmt.LoopControl.{out-LoopControl};
-ghost use Rattle.rhai_lower.specs.declared.stmt.SwitchCasesCollection.{out-SwitchCasesCollection};
-ghost use Rattle.rhai_json.specs.Left.{all_json, arms, block, cases, list_of, name, node, node_weight, optional_view};
-ghost use Rattle.rhai_json.specs.Left.{nodes, piece_json, piece_of, pieces, properties, statement_weight};
-ghost use Rattle.rhai_json.specs.Left.{statements, value_piece, weight, weights};
-ghost use Rattle.rhai_json.specs.Trees.{begun, node_json, statement_begun, statement_json};
+ghost use Rattle.rhai_json.specs.Left.{all_json, arms, block, cases, list_of, name, node, nodes, piece_json, piece_of, pieces, properties, statements, weight, weights};
+
+mod expr;
+mod stmt;
 
 use crate::cases::put_indices;
-use crate::expr::{expr_kind, put_expr_fields};
-use crate::fields::{begin_node, put_ident, put_position};
+use crate::fields::{put_ident, put_position};
 use crate::out::Out;
-use crate::stmt::{put_statement_fields, statement_kind};
-use rhai_lower::{
-    BinaryExpr, Expr, FlowControl, Ident, LoopControl, Stmt, StmtBlock, SwitchCase,
-    SwitchCasesCollection,
-};
+use rhai_lower::{BinaryExpr, Expr, Ident, Stmt, StmtBlock, SwitchCase};
 use std::alloc::{AllocError, Global};
 
 /// A part that is still to be written. Of a list these are the items that are left, and its end.
@@ -105,155 +96,6 @@ impl<'a> Printer<'a> {
     {
         self.push_member("rhs", Part::Expr(&pair.rhs))?;
         self.push_member("lhs", Part::Expr(&pair.lhs))
-    }
-
-    fn push_flow(&mut self, flow: &'a FlowControl) -> Result<(), AllocError>
-        ensures out { self.new.out ≡ self.old.out }
-        ensures left { OnOk result (pieces self.new
-            ≡ name (codes "expr") ∷ node (view (out-FlowControl flow.now).expr)
-            ∷ name (codes "body") ∷ block (block_view (out-FlowControl flow.now).body)
-            ∷ name (codes "branch") ∷ block (block_view (out-FlowControl flow.now).branch)
-            ∷ pieces self.old) }
-    {
-        self.push_member("branch", Part::Block(&flow.branch))?;
-        self.push_member("body", Part::Block(&flow.body))?;
-        self.push_member("expr", Part::Expr(&flow.expr))
-    }
-
-    // The guard or the value of a loop, and its body.
-    fn push_loop(&mut self, expr: &'a Expr, body: &'a StmtBlock) -> Result<(), AllocError>
-        ensures out { self.new.out ≡ self.old.out }
-        ensures left { OnOk result (pieces self.new ≡ name (codes "expr") ∷ node (view expr.now)
-            ∷ name (codes "body") ∷ block (block_view body.now) ∷ pieces self.old) }
-    {
-        self.push_member("body", Part::Block(body))?;
-        self.push_member("expr", Part::Expr(expr))
-    }
-
-    fn push_guarded(&mut self, control: &'a LoopControl) -> Result<(), AllocError>
-        ensures out { self.new.out ≡ self.old.out }
-        ensures left { OnOk result (pieces self.new
-            ≡ name (codes "expr") ∷ node (view (out-LoopControl control.now).expr)
-            ∷ name (codes "body") ∷ block (block_view (out-LoopControl control.now).body) ∷ pieces self.old) }
-    {
-        self.push_loop(&control.expr, &control.body)
-    }
-
-    fn push_switch(
-        &mut self,
-        item: &'a Expr,
-        choice: &'a SwitchCasesCollection,
-    ) -> Result<(), AllocError>
-        ensures out { self.new.out ≡ self.old.out }
-        ensures left { OnOk result (pieces self.new ≡ name (codes "item") ∷ node (view item.now)
-            ∷ list_of (codes "expressions")
-            ∷ arms (arm_views (out-SwitchCasesCollection choice.now).expressions.items)
-            ∷ list_of (codes "cases") ∷ cases (case_views (out-SwitchCasesCollection choice.now).cases.items)
-            ∷ pieces self.old) }
-    {
-        self.push_list("cases", Part::Cases(&choice.cases))?;
-        self.push_list("expressions", Part::Arms(&choice.expressions))?;
-        self.push_member("item", Part::Expr(item))
-    }
-
-    // The value of `return` or `break`, or null.
-    fn push_value(&mut self, value: &'a Option<Box<Expr>>) -> Result<(), AllocError>
-        ensures out { self.new.out ≡ self.old.out }
-        ensures left { OnOk result (pieces self.new ≡ name (codes "value") ∷ value_piece (optional_view value.now)
-            ∷ pieces self.old) }
-    {
-        match value {
-            Some(value) => self.push_member("value", Part::Expr(value)),
-            None => self.push_member("value", Part::Null),
-        }
-    }
-
-    // What stands in an expression, and the end of its object.
-    #[tactic(auto, using(rhai_lower::proofs::Views::view_map), unfolding(crate::specs::Left::node_weight, crate::specs::Trees::node_json))]
-    fn push_parts(&mut self, expr: &'a Expr) -> Result<(), AllocError>
-        ensures out { self.new.out ≡ self.old.out }
-        ensures same { OnOk result ((ts : List Token) → all_json (pieces self.new) (begun (view expr.now) ts)
-            ≡ all_json (pieces self.old) (node_json (view expr.now) ts)) }
-        ensures less { OnOk result
-            (weights (pieces self.new) < node_weight (view expr.now) + weights (pieces self.old)) }
-    {
-        self.push(Part::EndObject)?;
-        match expr {
-            Expr::InterpolatedString(parts, _) => self.push_list("parts", Part::Exprs(parts)),
-            Expr::Array(items, _) => self.push_list("items", Part::Exprs(items)),
-            Expr::And(list, _) | Expr::Or(list, _) | Expr::Coalesce(list, _) => {
-                self.push_list("operands", Part::Exprs(list))
-            }
-            Expr::Map(properties, _) => {
-                self.push_list("properties", Part::Properties(properties))
-            }
-            Expr::FnCall(call, _) | Expr::MethodCall(call, _) => {
-                self.push_list("args", Part::Exprs(&call.args))
-            }
-            Expr::Dot(pair, _, _) | Expr::Index(pair, _, _) => self.push_pair(pair),
-            Expr::Stmt(block) => self.push_member("block", Part::Block(block)),
-            Expr::Unit(_)
-            | Expr::BoolConstant(_, _)
-            | Expr::IntegerConstant(_, _)
-            | Expr::CharConstant(_, _)
-            | Expr::StringConstant(_, _)
-            | Expr::FnPointer(_, _, _)
-            | Expr::Variable(_, _)
-            | Expr::ThisPtr(_)
-            | Expr::Property(_, _) => Ok(()),
-        }
-    }
-
-    // What stands in a statement, and the end of its object.
-    #[tactic(auto, using(rhai_lower::proofs::Views::view_switch), unfolding(crate::specs::Left::statement_weight, crate::specs::Left::optional_weight, crate::specs::Trees::statement_json, crate::specs::Trees::value_json))]
-    fn push_statement_parts(&mut self, statement: &'a Stmt) -> Result<(), AllocError>
-        ensures out { self.new.out ≡ self.old.out }
-        ensures same { OnOk result ((ts : List Token)
-            → all_json (pieces self.new) (statement_begun (statement_view statement.now) ts)
-            ≡ all_json (pieces self.old) (statement_json (statement_view statement.now) ts)) }
-        ensures less { OnOk result (weights (pieces self.new)
-            < statement_weight (statement_view statement.now) + weights (pieces self.old)) }
-    {
-        self.push(Part::EndObject)?;
-        match statement {
-            Stmt::If(flow, _) | Stmt::TryCatch(flow, _) => self.push_flow(flow),
-            Stmt::Switch { item, cases, .. } => self.push_switch(item, cases),
-            Stmt::While(control, _) | Stmt::Do { control, .. } => self.push_guarded(control),
-            Stmt::For(control, _) => self.push_loop(&control.expr, &control.body),
-            Stmt::Var { value, .. } => self.push_member("value", Part::Expr(value)),
-            Stmt::Assignment { operands, .. } => self.push_pair(operands),
-            Stmt::Expr(expr) => self.push_member("expr", Part::Expr(expr)),
-            Stmt::Block(block) => self.push_member("block", Part::Block(block)),
-            Stmt::BreakLoop { value, .. } | Stmt::Return { value, .. } => self.push_value(value),
-            Stmt::Import { path, .. } => self.push_member("path", Part::Expr(path)),
-            Stmt::Noop(_) | Stmt::Export { .. } | Stmt::Share(_, _) => Ok(()),
-        }
-    }
-
-    fn put_expr(&mut self, expr: &'a Expr) -> Result<(), AllocError>
-        ensures same { OnOk result (all_json (pieces self.new) self.new.out
-            ≡ all_json (pieces self.old) (piece_json (node (view expr.now)) self.old.out)) }
-        ensures less { OnOk result
-            (weights (pieces self.new) < weight (node (view expr.now)) + weights (pieces self.old)) }
-    {
-        begin_node(&mut self.out, expr_kind(expr), expr.position())?;
-        put_expr_fields(&mut self.out, expr)?;
-        self.push_parts(expr)
-    }
-
-    fn put_statement(&mut self, statement: &'a Stmt) -> Result<(), AllocError>
-        ensures same { OnOk result (all_json (pieces self.new) self.new.out
-            ≡ all_json (pieces self.old) (statement_json (statement_view statement.now) self.old.out)) }
-        ensures less { OnOk result (weights (pieces self.new)
-            < statement_weight (statement_view statement.now) + weights (pieces self.old)) }
-    {
-        begin_node(
-            &mut self.out,
-            statement_kind(statement),
-            statement.position(),
-        )?;
-        put_statement_fields(&mut self.out, statement)?;
-        self.push_statement_parts(statement)
     }
 
     #[tactic(auto, unfolding(crate::specs::Left::block_weight, crate::specs::Trees::block_json))]

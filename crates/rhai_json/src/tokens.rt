@@ -10,7 +10,6 @@ ghost use Rattle.rhai_json.specs.TokenLists.{end_span, entry_value, held, token_
 use crate::errors::put_lex_error;
 use crate::fields::{put_flag, put_position, put_span, put_text};
 use crate::out::Out;
-use crate::token_kind::token_kind;
 use rhai_lower::{Entry, Position, Token};
 use rhai_report::in_file;
 use rhai_tokenizer::{Span, Tokens};
@@ -44,7 +43,7 @@ fn put_token(
     ensures { OnOk result (out.new ≡ token_value (lexeme token.now) pos span text out.old) }
 {
     out.begin_object()?;
-    put_text(out, "kind", token_kind(token))?;
+    put_text(out, "kind", token.kind())?;
     put_payload(out, token)?;
     put_position(out, "position", pos)?;
     put_span(out, span)?;

@@ -31,7 +31,7 @@ pub fn may_stand(looping: bool, construct: Construct) -> bool
 {
     match construct {
         Construct::While | Construct::Loop | Construct::Do | Construct::For => looping,
-        Construct::Block | Construct::If | Construct::Switch | Construct::Try => true,
+        _ => true,
     }
 }
 

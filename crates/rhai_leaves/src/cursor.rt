@@ -1,7 +1,7 @@
 //! Peeking at tokens and taking them: `peek`, `take` and `skip`. A token that says that memory ran out is refused here,
 //! and nowhere else.
 
-ghost use Rattle.std.specs.Prelude.{◌≡◌, false};
+ghost use Rattle.std.specs.Prelude.{◌≡◌};
 ghost use Rattle.std.specs.Borrow.{sem};
 ghost use Rattle.std.specs.Io.BufRead.{Rests};
 ghost use Rattle.rhai_lower.specs.contracts.stream.TokenStream.{the_row};

@@ -1,6 +1,8 @@
 //! The head of a function: type, name, parameters, and `{`.
 
 ghost use Rattle.std.specs.Prelude.{◌≡◌, ◌⊎◌, ◌≤◌, IfErr, IfOk, OnOk, false, true};
+ghost use Rattle.std.specs.Char.{is_ascii_lowercase};
+ghost use Rattle.std.specs.List.{list_any};
 ghost use Rattle.std.specs.Rc.{rc_str_bytes};
 ghost use Rattle.rhai_lower.specs.Lexemes.{lexeme};
 ghost use Rattle.rhai_grammar.specs.Causes.{FnMissingName, MemoryIsNowhere, cause_of, is_for_memory, refusal};
@@ -140,38 +142,27 @@ pub fn open_parameters(input: &mut TokenStream, function: &RcStr) -> ParseResult
     }
 }
 
-// Whether a token is a keyword of the language.
+fn has_small_letter(text: &str) -> bool
+    ensures { result ≡ list_any is_ascii_lowercase text.now }
+{
+    text.as_bytes().iter().any(|byte| byte.is_ascii_lowercase())
+}
+
+// Whether a token is a keyword of the language: it has a small letter, as no other token without payload has.
 fn is_keyword(token: &Token) -> bool
     ensures { result ≡ is_keyword (lexeme token.now) }
 {
-    matches!(
-        token,
-        Token::True
-            | Token::False
-            | Token::Let
-            | Token::Const
-            | Token::If
-            | Token::Else
-            | Token::Switch
-            | Token::While
-            | Token::Loop
-            | Token::Do
-            | Token::Until
-            | Token::For
-            | Token::In
-            | Token::NotIn
-            | Token::Break
-            | Token::Continue
-            | Token::Return
-            | Token::Throw
-            | Token::Try
-            | Token::Catch
-            | Token::Import
-            | Token::Export
-            | Token::As
-            | Token::Fn
-            | Token::Private
-    )
+    match token {
+        Token::IntegerConstant(_)
+        | Token::CharConstant(_)
+        | Token::StringConstant(_)
+        | Token::InterpolatedString(_)
+        | Token::Identifier(_)
+        | Token::Reserved(_)
+        | Token::LexError(_)
+        | Token::Comment(_) => false,
+        sign => has_small_letter(sign.literal_syntax()),
+    }
 }
 
 // Whether a token is a reserved word or symbol.

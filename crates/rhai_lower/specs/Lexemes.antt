@@ -4,7 +4,7 @@ use Rattle.std.specs.Fmt.{signed_decimal}
 use Rattle.std.specs.Rc.{rc_str_bytes}
 use Rattle.std.specs.Char.{encode_utf8}
 use Rattle.rhai_lower.specs.Texts.{Text}
-use Rattle.rhai_lower.specs.Tokens.{literal_of}
+use Rattle.rhai_lower.specs.Tokens.{kind_of_sign, literal_of}
 use Rattle.rhai_lower.specs.declared.token.LexError.{LexError}
 use Rattle.rhai_lower.specs.declared.token.LexError.TheVariants as error
 use Rattle.rhai_lower.specs.declared.token.Token.{Token}
@@ -51,6 +51,18 @@ lexeme (token.Reserved t) = Reserved (rc_str_bytes t)
 lexeme (token.LexError e) = Faulty (fault e)
 lexeme (token.Comment t) = Comment (rc_str_bytes t)
 lexeme t = Sign t
+
+-- Rhai's names of the kinds of tokens
+abbrev pub kind_of : Lexeme → Text
+kind_of (Integer n) = codes "IntegerConstant"
+kind_of (Character c) = codes "CharConstant"
+kind_of (String t) = codes "StringConstant"
+kind_of (Interpolated t) = codes "InterpolatedString"
+kind_of (Name t) = codes "Identifier"
+kind_of (Reserved t) = codes "Reserved"
+kind_of (Faulty f) = codes "LexError"
+kind_of (Comment t) = codes "Comment"
+kind_of (Sign t) = kind_of_sign t
 
 -- a token's text
 abbrev pub text_of : Lexeme → Text

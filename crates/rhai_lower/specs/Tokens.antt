@@ -1,4 +1,4 @@
--- Tokens: strengths as operators, and spellings of those without payload.
+-- Tokens: strengths as operators, and how those without payload are written and named.
 use Rattle.std.specs.Prelude.{◌≡◌, ℕ, Bool, true, false, [], Option, None, Some, codes, refl}
 use Rattle.rhai_lower.specs.Texts.{Text}
 use Rattle.rhai_lower.specs.declared.token.Token.{Token}
@@ -151,7 +151,100 @@ literal_of Private = codes "private"
 literal_of EOF = codes "{EOF}"
 literal_of _ = []
 
--- `*` binds more strongly than `+`, and only `**` is right-associative.
+-- Rhai's names of the kinds of tokens without payload
+abbrev pub kind_of_sign : Token → Text
+kind_of_sign Unit = codes "Unit"
+kind_of_sign LeftBrace = codes "LeftBrace"
+kind_of_sign RightBrace = codes "RightBrace"
+kind_of_sign LeftParen = codes "LeftParen"
+kind_of_sign RightParen = codes "RightParen"
+kind_of_sign LeftBracket = codes "LeftBracket"
+kind_of_sign RightBracket = codes "RightBracket"
+kind_of_sign QuestionBracket = codes "QuestionBracket"
+kind_of_sign MapStart = codes "MapStart"
+kind_of_sign Period = codes "Period"
+kind_of_sign Elvis = codes "Elvis"
+kind_of_sign DoubleColon = codes "DoubleColon"
+kind_of_sign Colon = codes "Colon"
+kind_of_sign Comma = codes "Comma"
+kind_of_sign SemiColon = codes "SemiColon"
+kind_of_sign DoubleArrow = codes "DoubleArrow"
+kind_of_sign Equals = codes "Equals"
+kind_of_sign Pipe = codes "Pipe"
+kind_of_sign Or = codes "Or"
+kind_of_sign Bang = codes "Bang"
+kind_of_sign Underscore = codes "Underscore"
+kind_of_sign XOr = codes "XOr"
+kind_of_sign And = codes "And"
+kind_of_sign Ampersand = codes "Ampersand"
+kind_of_sign EqualsTo = codes "EqualsTo"
+kind_of_sign NotEqualsTo = codes "NotEqualsTo"
+kind_of_sign In = codes "In"
+kind_of_sign NotIn = codes "NotIn"
+kind_of_sign LessThan = codes "LessThan"
+kind_of_sign LessThanEqualsTo = codes "LessThanEqualsTo"
+kind_of_sign GreaterThan = codes "GreaterThan"
+kind_of_sign GreaterThanEqualsTo = codes "GreaterThanEqualsTo"
+kind_of_sign DoubleQuestion = codes "DoubleQuestion"
+kind_of_sign ExclusiveRange = codes "ExclusiveRange"
+kind_of_sign InclusiveRange = codes "InclusiveRange"
+kind_of_sign Plus = codes "Plus"
+kind_of_sign Minus = codes "Minus"
+kind_of_sign Multiply = codes "Multiply"
+kind_of_sign Divide = codes "Divide"
+kind_of_sign Modulo = codes "Modulo"
+kind_of_sign PowerOf = codes "PowerOf"
+kind_of_sign LeftShift = codes "LeftShift"
+kind_of_sign RightShift = codes "RightShift"
+kind_of_sign UnaryPlus = codes "UnaryPlus"
+kind_of_sign UnaryMinus = codes "UnaryMinus"
+kind_of_sign PlusAssign = codes "PlusAssign"
+kind_of_sign MinusAssign = codes "MinusAssign"
+kind_of_sign MultiplyAssign = codes "MultiplyAssign"
+kind_of_sign DivideAssign = codes "DivideAssign"
+kind_of_sign ModuloAssign = codes "ModuloAssign"
+kind_of_sign PowerOfAssign = codes "PowerOfAssign"
+kind_of_sign LeftShiftAssign = codes "LeftShiftAssign"
+kind_of_sign RightShiftAssign = codes "RightShiftAssign"
+kind_of_sign AndAssign = codes "AndAssign"
+kind_of_sign OrAssign = codes "OrAssign"
+kind_of_sign XOrAssign = codes "XOrAssign"
+kind_of_sign True = codes "True"
+kind_of_sign False = codes "False"
+kind_of_sign Let = codes "Let"
+kind_of_sign Const = codes "Const"
+kind_of_sign If = codes "If"
+kind_of_sign Else = codes "Else"
+kind_of_sign Switch = codes "Switch"
+kind_of_sign While = codes "While"
+kind_of_sign Loop = codes "Loop"
+kind_of_sign Do = codes "Do"
+kind_of_sign Until = codes "Until"
+kind_of_sign For = codes "For"
+kind_of_sign Break = codes "Break"
+kind_of_sign Continue = codes "Continue"
+kind_of_sign Return = codes "Return"
+kind_of_sign Throw = codes "Throw"
+kind_of_sign Try = codes "Try"
+kind_of_sign Catch = codes "Catch"
+kind_of_sign Import = codes "Import"
+kind_of_sign Export = codes "Export"
+kind_of_sign As = codes "As"
+kind_of_sign Fn = codes "Fn"
+kind_of_sign Private = codes "Private"
+kind_of_sign EOF = codes "EOF"
+kind_of_sign _ = []
+
+-- how a token without payload is written in a list of tokens: as in scripts, but the signs before an operand have a
+-- `u` before them
+abbrev pub written_as : Token → Text
+written_as UnaryMinus = codes "u-"
+written_as UnaryPlus = codes "u+"
+written_as t = literal_of t
+
+-- `*` binds more strongly than `+`, and only `**` is right-associative. The minus of a difference is written `-`, that of
+-- a negative number `u-`.
 example : (strength_of Plus ≡ Some 150) × (strength_of Multiply ≡ Some 180) × (binds_right Multiply ≡ false)
-    × (binds_right PowerOf ≡ true)
-example = (refl, refl, refl, refl)
+    × (binds_right PowerOf ≡ true) × (written_as Minus ≡ codes "-") × (written_as UnaryMinus ≡ codes "u-")
+    × (written_as LeftShiftAssign ≡ codes "<<=") × (kind_of_sign NotIn ≡ codes "NotIn")
+example = (refl, refl, refl, refl, refl, refl, refl, refl)

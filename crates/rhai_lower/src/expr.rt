@@ -1,6 +1,8 @@
 //! `Expr`: the expressions of the tree, with the names and calls in them.
 
 ghost use Rattle.std.specs.Prelude.{◌≡◌};
+ghost use Rattle.rhai_lower.specs.Nodes.{first_start, position_of, start_of};
+ghost use Rattle.rhai_lower.specs.View.{view, views};
 ghost use Rattle.rhai_lower.specs.declared.expr.BinaryExpr.{out-BinaryExpr};
 ghost use Rattle.rhai_lower.specs.declared.expr.FnCallExpr.{out-FnCallExpr};
 
@@ -211,5 +213,77 @@ impl Drop for BinaryExpr {
                 _ => return,
             }
         }
+    }
+}
+
+impl Expr {
+    /// The position of the node: for a call that of its name or operator, for a chain that of its dot or bracket, for a
+    /// block its start. Does not allocate.
+    pub fn position(&self) -> Position
+        ensures { result ≡ position_of (view self.now) }
+    {
+        match self {
+            Expr::Unit(pos) => *pos,
+            Expr::BoolConstant(_, pos) => *pos,
+            Expr::IntegerConstant(_, pos) => *pos,
+            Expr::CharConstant(_, pos) => *pos,
+            Expr::StringConstant(_, pos) => *pos,
+            Expr::InterpolatedString(_, pos) => *pos,
+            Expr::Array(_, pos) => *pos,
+            Expr::Map(_, pos) => *pos,
+            Expr::FnPointer(_, _, pos) => *pos,
+            Expr::Variable(_, pos) => *pos,
+            Expr::ThisPtr(pos) => *pos,
+            Expr::Property(_, pos) => *pos,
+            Expr::FnCall(_, pos) => *pos,
+            Expr::MethodCall(_, pos) => *pos,
+            Expr::Dot(_, _, pos) => *pos,
+            Expr::Index(_, _, pos) => *pos,
+            Expr::And(_, pos) => *pos,
+            Expr::Or(_, pos) => *pos,
+            Expr::Coalesce(_, pos) => *pos,
+            Expr::Stmt(block) => block.start,
+        }
+    }
+
+    /// The start of the node: a chain starts where its left expression starts, a list of `&&`, `||` or `??` where its
+    /// first operand starts, any other node at its position. Does not allocate.
+    #[cycle(start)]
+    pub fn start_position(&self) -> Position
+        ensures { result ≡ start_of (view self.now) }
+    {
+        match self {
+            Expr::Dot(chain, _, _) => chain.lhs.start_position(),
+            Expr::Index(chain, _, _) => chain.lhs.start_position(),
+            Expr::And(operands, pos) => first_start(operands, *pos),
+            Expr::Or(operands, pos) => first_start(operands, *pos),
+            Expr::Coalesce(operands, pos) => first_start(operands, *pos),
+            Expr::Unit(pos) => *pos,
+            Expr::BoolConstant(_, pos) => *pos,
+            Expr::IntegerConstant(_, pos) => *pos,
+            Expr::CharConstant(_, pos) => *pos,
+            Expr::StringConstant(_, pos) => *pos,
+            Expr::InterpolatedString(_, pos) => *pos,
+            Expr::Array(_, pos) => *pos,
+            Expr::Map(_, pos) => *pos,
+            Expr::FnPointer(_, _, pos) => *pos,
+            Expr::Variable(_, pos) => *pos,
+            Expr::ThisPtr(pos) => *pos,
+            Expr::Property(_, pos) => *pos,
+            Expr::FnCall(_, pos) => *pos,
+            Expr::MethodCall(_, pos) => *pos,
+            Expr::Stmt(block) => block.start,
+        }
+    }
+}
+
+// The start of the first operand; `pos` if there is none.
+#[cycle(start)]
+fn first_start(operands: &[Expr], pos: Position) -> Position
+    ensures { result ≡ first_start (views operands.now) pos }
+{
+    match operands {
+        [first, ..] => first.start_position(),
+        [] => pos,
     }
 }

@@ -11,7 +11,6 @@ pub mod names;
 pub mod node;
 pub mod optimizer;
 pub mod parts;
-mod places;
 pub mod position;
 pub mod scope;
 mod signature;
@@ -36,5 +35,5 @@ pub use stmt::{
     SwitchCasesCollection,
 };
 pub use stream::{Entry, TokenStream, UndeliverableEntry};
-pub use token::{LexError, Token, write_improper_symbol};
+pub use token::{LexError, Token, symbol, write_improper_symbol};
 pub use walk::{Node, Walk};

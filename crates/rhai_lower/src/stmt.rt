@@ -1,7 +1,7 @@
 //! `Stmt`: the statements of the tree.
 
 ghost use Rattle.std.specs.Prelude.{◌≡◌, IfOk};
-ghost use Rattle.rhai_lower.specs.Nodes.{block_of_one, made_block};
+ghost use Rattle.rhai_lower.specs.Nodes.{block_of_one, made_block, statement_position};
 ghost use Rattle.rhai_lower.specs.declared.stmt.StmtBlock.{out-StmtBlock};
 ghost use Rattle.rhai_lower.specs.View.{block_view, statement_view};
 
@@ -215,5 +215,33 @@ impl StmtBlock {
             start,
             end: Position::NONE,
         })
+    }
+}
+
+impl Stmt {
+    /// The position of the statement: for an assignment that of its operator, for an expression that of its node, for a
+    /// block its start, otherwise that of its first token. Does not allocate.
+    #[inline(never)]
+    pub fn position(&self) -> Position
+        ensures { result ≡ statement_position (statement_view self.now) }
+    {
+        match self {
+            Stmt::Noop(pos) => *pos,
+            Stmt::If(_, pos) => *pos,
+            Stmt::Switch { pos, .. } => *pos,
+            Stmt::While(_, pos) => *pos,
+            Stmt::Do { pos, .. } => *pos,
+            Stmt::For(_, pos) => *pos,
+            Stmt::Var { pos, .. } => *pos,
+            Stmt::Assignment { pos, .. } => *pos,
+            Stmt::Expr(expr) => expr.position(),
+            Stmt::Block(block) => block.start,
+            Stmt::TryCatch(_, pos) => *pos,
+            Stmt::BreakLoop { pos, .. } => *pos,
+            Stmt::Return { pos, .. } => *pos,
+            Stmt::Import { pos, .. } => *pos,
+            Stmt::Export { pos, .. } => *pos,
+            Stmt::Share(_, pos) => *pos,
+        }
     }
 }

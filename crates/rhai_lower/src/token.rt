@@ -1,10 +1,10 @@
 //! `Token`: what the tokenizer delivers to the parser.
 
-ghost use Rattle.std.specs.Prelude.{◌≡◌, IfOk, Some};
+ghost use Rattle.std.specs.Prelude.{◌≡◌, IfOk, IfSome, Some};
 ghost use Rattle.std.specs.Fmt.{DisplaysOnOk};
 ghost use Rattle.std.specs.Rc.{rc_str_bytes};
-ghost use Rattle.rhai_lower.specs.Tokens.{strength_of, binds_right, assigns, literal_of};
-ghost use Rattle.rhai_lower.specs.Lexemes.{text_of, lexeme};
+ghost use Rattle.rhai_lower.specs.Tokens.{strength_of, binds_right, assigns, literal_of, written_as};
+ghost use Rattle.rhai_lower.specs.Lexemes.{kind_of, text_of, lexeme};
 ghost use Rattle.rhai_lower.specs.Messages.{symbol_message};
 
 use std::alloc::{AllocError, Global};
@@ -392,6 +392,102 @@ impl Token {
         }
     }
 
+    /// Rhai's name of the token's kind, as `IntegerConstant`.
+    pub fn kind(&self) -> &'static str
+        ensures { result.now ≡ kind_of (lexeme self.now) }
+    {
+        match self {
+            Token::IntegerConstant(_) => "IntegerConstant",
+            Token::CharConstant(_) => "CharConstant",
+            Token::StringConstant(_) => "StringConstant",
+            Token::InterpolatedString(_) => "InterpolatedString",
+            Token::Identifier(_) => "Identifier",
+            Token::Reserved(_) => "Reserved",
+            Token::LexError(_) => "LexError",
+            Token::Comment(_) => "Comment",
+            Token::Unit => "Unit",
+            Token::LeftBrace => "LeftBrace",
+            Token::RightBrace => "RightBrace",
+            Token::LeftParen => "LeftParen",
+            Token::RightParen => "RightParen",
+            Token::LeftBracket => "LeftBracket",
+            Token::RightBracket => "RightBracket",
+            Token::QuestionBracket => "QuestionBracket",
+            Token::MapStart => "MapStart",
+            Token::Period => "Period",
+            Token::Elvis => "Elvis",
+            Token::DoubleColon => "DoubleColon",
+            Token::Colon => "Colon",
+            Token::Comma => "Comma",
+            Token::SemiColon => "SemiColon",
+            Token::DoubleArrow => "DoubleArrow",
+            Token::Equals => "Equals",
+            Token::Pipe => "Pipe",
+            Token::Or => "Or",
+            Token::Bang => "Bang",
+            Token::Underscore => "Underscore",
+            Token::XOr => "XOr",
+            Token::And => "And",
+            Token::Ampersand => "Ampersand",
+            Token::EqualsTo => "EqualsTo",
+            Token::NotEqualsTo => "NotEqualsTo",
+            Token::In => "In",
+            Token::NotIn => "NotIn",
+            Token::LessThan => "LessThan",
+            Token::LessThanEqualsTo => "LessThanEqualsTo",
+            Token::GreaterThan => "GreaterThan",
+            Token::GreaterThanEqualsTo => "GreaterThanEqualsTo",
+            Token::DoubleQuestion => "DoubleQuestion",
+            Token::ExclusiveRange => "ExclusiveRange",
+            Token::InclusiveRange => "InclusiveRange",
+            Token::Plus => "Plus",
+            Token::Minus => "Minus",
+            Token::Multiply => "Multiply",
+            Token::Divide => "Divide",
+            Token::Modulo => "Modulo",
+            Token::PowerOf => "PowerOf",
+            Token::LeftShift => "LeftShift",
+            Token::RightShift => "RightShift",
+            Token::UnaryPlus => "UnaryPlus",
+            Token::UnaryMinus => "UnaryMinus",
+            Token::PlusAssign => "PlusAssign",
+            Token::MinusAssign => "MinusAssign",
+            Token::MultiplyAssign => "MultiplyAssign",
+            Token::DivideAssign => "DivideAssign",
+            Token::ModuloAssign => "ModuloAssign",
+            Token::PowerOfAssign => "PowerOfAssign",
+            Token::LeftShiftAssign => "LeftShiftAssign",
+            Token::RightShiftAssign => "RightShiftAssign",
+            Token::AndAssign => "AndAssign",
+            Token::OrAssign => "OrAssign",
+            Token::XOrAssign => "XOrAssign",
+            Token::True => "True",
+            Token::False => "False",
+            Token::Let => "Let",
+            Token::Const => "Const",
+            Token::If => "If",
+            Token::Else => "Else",
+            Token::Switch => "Switch",
+            Token::While => "While",
+            Token::Loop => "Loop",
+            Token::Do => "Do",
+            Token::Until => "Until",
+            Token::For => "For",
+            Token::Break => "Break",
+            Token::Continue => "Continue",
+            Token::Return => "Return",
+            Token::Throw => "Throw",
+            Token::Try => "Try",
+            Token::Catch => "Catch",
+            Token::Import => "Import",
+            Token::Export => "Export",
+            Token::As => "As",
+            Token::Fn => "Fn",
+            Token::Private => "Private",
+            Token::EOF => "EOF",
+        }
+    }
+
     /// The token's text: its payload (an integer in decimal), or how it is written; empty for an error of the
     /// tokenizer. Returns `AllocError` if memory runs out.
     #[inline(always)]
@@ -410,4 +506,154 @@ impl Token {
             _ => RcStr::from_str(alloc, self.literal_syntax()),
         }
     }
+}
+
+// Tokens by how they are written in a list.
+fn bracket(text: &str) -> Option<Token>
+    ensures { IfSome result (λ token. written_as token ≡ text.now) }
+{
+    Some(match text {
+        "()" => Token::Unit,
+        "{" => Token::LeftBrace,
+        "}" => Token::RightBrace,
+        "(" => Token::LeftParen,
+        ")" => Token::RightParen,
+        "[" => Token::LeftBracket,
+        "]" => Token::RightBracket,
+        "?[" => Token::QuestionBracket,
+        "#{" => Token::MapStart,
+        _ => return None,
+    })
+}
+
+fn separator(text: &str) -> Option<Token>
+    ensures { IfSome result (λ token. written_as token ≡ text.now) }
+{
+    Some(match text {
+        "." => Token::Period,
+        "?." => Token::Elvis,
+        "::" => Token::DoubleColon,
+        ":" => Token::Colon,
+        "," => Token::Comma,
+        ";" => Token::SemiColon,
+        "=>" => Token::DoubleArrow,
+        "=" => Token::Equals,
+        "!" => Token::Bang,
+        "_" => Token::Underscore,
+        _ => return None,
+    })
+}
+
+fn arithmetic(text: &str) -> Option<Token>
+    ensures { IfSome result (λ token. written_as token ≡ text.now) }
+{
+    Some(match text {
+        "u-" => Token::UnaryMinus,
+        "u+" => Token::UnaryPlus,
+        "+" => Token::Plus,
+        "-" => Token::Minus,
+        "*" => Token::Multiply,
+        "/" => Token::Divide,
+        "%" => Token::Modulo,
+        "**" => Token::PowerOf,
+        "<<" => Token::LeftShift,
+        ">>" => Token::RightShift,
+        "^" => Token::XOr,
+        "|" => Token::Pipe,
+        "&" => Token::Ampersand,
+        _ => return None,
+    })
+}
+
+fn relation(text: &str) -> Option<Token>
+    ensures { IfSome result (λ token. written_as token ≡ text.now) }
+{
+    Some(match text {
+        "||" => Token::Or,
+        "&&" => Token::And,
+        "==" => Token::EqualsTo,
+        "!=" => Token::NotEqualsTo,
+        "in" => Token::In,
+        "!in" => Token::NotIn,
+        "<" => Token::LessThan,
+        "<=" => Token::LessThanEqualsTo,
+        ">" => Token::GreaterThan,
+        ">=" => Token::GreaterThanEqualsTo,
+        "??" => Token::DoubleQuestion,
+        ".." => Token::ExclusiveRange,
+        "..=" => Token::InclusiveRange,
+        _ => return None,
+    })
+}
+
+fn assignment(text: &str) -> Option<Token>
+    ensures { IfSome result (λ token. written_as token ≡ text.now) }
+{
+    Some(match text {
+        "+=" => Token::PlusAssign,
+        "-=" => Token::MinusAssign,
+        "*=" => Token::MultiplyAssign,
+        "/=" => Token::DivideAssign,
+        "%=" => Token::ModuloAssign,
+        "**=" => Token::PowerOfAssign,
+        "<<=" => Token::LeftShiftAssign,
+        ">>=" => Token::RightShiftAssign,
+        "&=" => Token::AndAssign,
+        "|=" => Token::OrAssign,
+        "^=" => Token::XOrAssign,
+        _ => return None,
+    })
+}
+
+fn control(text: &str) -> Option<Token>
+    ensures { IfSome result (λ token. written_as token ≡ text.now) }
+{
+    Some(match text {
+        "if" => Token::If,
+        "else" => Token::Else,
+        "switch" => Token::Switch,
+        "while" => Token::While,
+        "loop" => Token::Loop,
+        "do" => Token::Do,
+        "until" => Token::Until,
+        "for" => Token::For,
+        "break" => Token::Break,
+        "continue" => Token::Continue,
+        "return" => Token::Return,
+        "throw" => Token::Throw,
+        "try" => Token::Try,
+        "catch" => Token::Catch,
+        _ => return None,
+    })
+}
+
+fn keyword(text: &str) -> Option<Token>
+    ensures { IfSome result (λ token. written_as token ≡ text.now) }
+{
+    Some(match text {
+        "true" => Token::True,
+        "false" => Token::False,
+        "let" => Token::Let,
+        "const" => Token::Const,
+        "import" => Token::Import,
+        "export" => Token::Export,
+        "as" => Token::As,
+        "fn" => Token::Fn,
+        "private" => Token::Private,
+        _ => return None,
+    })
+}
+
+/// The token without payload that is written like this, with `u-` and `u+` for the signs before an operand; `None` if
+/// there is no such token.
+pub fn symbol(text: &str) -> Option<Token>
+    ensures { IfSome result (λ token. written_as token ≡ text.now) }
+{
+    bracket(text)
+        .or_else(|| separator(text))
+        .or_else(|| arithmetic(text))
+        .or_else(|| relation(text))
+        .or_else(|| assignment(text))
+        .or_else(|| control(text))
+        .or_else(|| keyword(text))
 }

@@ -1,16 +1,15 @@
 //! `Lent`: the readers that are lent to those of expressions, of compound operands and of statements.
 
-ghost use Rattle.std.specs.Prelude.{◌≡◌, ◌≤◌, ◌+◌, IfOk, false, true};
+ghost use Rattle.std.specs.Prelude.{◌≡◌, ◌+◌, false};
 ghost use Rattle.rhai_lower.specs.Nodes.{no_statements};
 ghost use Rattle.rhai_lower.specs.View.{statement_view, view};
 ghost use Rattle.rhai_base.specs.Frames.{SameSurroundings};
 ghost use Rattle.rhai_grammar.specs.Beginnings.{beginning};
-ghost use Rattle.rhai_grammar.specs.Cursors.{left};
-ghost use Rattle.rhai_grammar.specs.Statements.{ends_itself};
 ghost use Rattle.rhai_readers.specs.PlainPrimaries.{is_plain};
 ghost use Rattle.rhai_reading.specs.Running.{need, next_item};
 ghost use Rattle.rhai_readers.specs.Readers.{NestsAs, ReadsAs, construct, expression, inside};
 ghost use Rattle.rhai_readers.specs.Readers.{primary, state_of, statement, statements, statements_of, whole, with_live};
+ghost use Rattle.rhai_readers.specs.Statements.{NestsStatement};
 ghost use Rattle.rhai_readers.specs.Heights.{function_height};
 ghost use Rattle.rhai_trees.specs.Chains.{chain_view};
 
@@ -66,11 +65,7 @@ where
         → S.pre s.stmt engine shared frame settings
         × ((result : _) (after : _) (after_frame : _)
         → S.post s.stmt engine shared frame settings result after after_frame
-        → NestsAs engine.now frame.now settings (2 + function_height engine.now settings) statement
-        (with_live statement_view after_frame.now) shared.now result after.now
-        × (SameSurroundings frame.now after_frame.now
-        × IfOk result (λ s. ends_itself (statement_view s) ≡ true
-        → left (state_of after.now).cursor.tokens + 1 ≤ left (state_of shared.now).cursor.tokens))))
+        → NestsStatement engine.now frame.now after_frame.now settings shared.now result after.now))
         × ((engine : _) (shared : _) (frame : _) (settings : _) (kind : _)
         → need (construct kind engine.now frame.now settings) (state_of shared.now) ≡ n
         → C.pre s.construct engine shared frame settings kind
@@ -180,11 +175,7 @@ fn parse_stmt(
     frame: &mut Frame<'_>,
     settings: ParseSettings,
 ) -> ParseResult<Stmt>
-    ensures reads { NestsAs engine.now frame.old settings (2 + function_height engine.now settings) statement
-        (with_live statement_view frame.new) shared.old result shared.new }
-    ensures place { SameSurroundings frame.old frame.new }
-    ensures takes { IfOk result (λ s. ends_itself (statement_view s) ≡ true
-        → left (state_of shared.new).cursor.tokens + 1 ≤ left (state_of shared.old).cursor.tokens) }
+    ensures { NestsStatement engine.now frame.old frame.new settings shared.old result shared.new }
 {
     let readers = lent!();
     let reader = statements::Reader { engine, readers };

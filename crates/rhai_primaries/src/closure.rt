@@ -8,9 +8,10 @@ ghost use Rattle.rhai_reading.specs.Reading.{closure_end};
 ghost use Rattle.rhai_reading.specs.Running.{Caller, Gives, exec};
 ghost use Rattle.rhai_readers.specs.Frames.{context_of, live_of};
 ghost use Rattle.rhai_readers.specs.Engines.{EngineValue};
-ghost use Rattle.rhai_readers.specs.Readers.{Covers, GoesOn, ReadsAs, names_of, state_of};
+ghost use Rattle.rhai_readers.specs.Readers.{GoesOn, names_of, state_of};
 ghost use Rattle.rhai_primaries.specs.Closures.{UsesAll, closure, closure_body, closure_parameters};
 ghost use Rattle.rhai_readers.specs.Heights.{Ends, Steady, function_height};
+ghost use Rattle.rhai_primaries.specs.Readers.{Lends, Reads};
 
 use crate::reader::Reader;
 use rhai_base::closures::{closure_function, closure_value};
@@ -34,10 +35,8 @@ impl<R: LentReaders> Reader<'_, R> {
         settings: ParseSettings,
         bars: Bars,
     ) -> ParseResult<Chain>
-        requires lent { Covers (R.lent self.now.readers) (closure bars self.now.engine.now frame.now settings)
-            shared.old }
-        ensures { ReadsAs self.now.engine.now frame.now settings 0 (closure bars) chain_view shared.old result
-            shared.new }
+        requires lent { Lends R.lent self.now (closure bars) frame.now settings shared.old }
+        ensures { Reads self.now frame.now settings 0 (closure bars) chain_view shared.old result shared.new }
     {
         let alloc = self.engine.alloc();
         let limit = self.engine.max_functions();
@@ -63,10 +62,9 @@ impl<R: LentReaders> Reader<'_, R> {
         frame: &mut Frame<'_>,
         settings: ParseSettings,
     ) -> ParseResult<Stmt>
-        requires lent { Covers (R.lent self.now.readers) (closure_body self.now.engine.now frame.old settings)
-            shared.old }
-        ensures { ReadsAs self.now.engine.now frame.old settings (2 + function_height self.now.engine.now settings)
-            closure_body statement_view shared.old result shared.new }
+        requires lent { Lends R.lent self.now closure_body frame.old settings shared.old }
+        ensures { Reads self.now frame.old settings (2 + function_height self.now.engine.now settings) closure_body
+            statement_view shared.old result shared.new }
     {
         if let Some(end) = ends_here(shared.input)? {
             return Ok(Stmt::Noop(end));

@@ -3,9 +3,10 @@
 ghost use Rattle.std.specs.Prelude.{◌≡◌, false};
 ghost use Rattle.rhai_grammar.specs.Beginnings.{beginning};
 ghost use Rattle.rhai_readers.specs.PlainPrimaries.{is_plain};
-ghost use Rattle.rhai_readers.specs.Readers.{Covers, ReadsAs, primary, state_of};
+ghost use Rattle.rhai_readers.specs.Readers.{primary, state_of};
 ghost use Rattle.rhai_reading.specs.Running.{next_item};
 ghost use Rattle.rhai_trees.specs.Chains.{chain_view};
+ghost use Rattle.rhai_primaries.specs.Readers.{Lends, Reads};
 
 use crate::reader::Reader;
 use rhai_base::allowed::{may_be_closure, may_be_value};
@@ -17,7 +18,8 @@ use rhai_leaves::refusals::no_operand;
 use rhai_leaves::tokens::what_begins;
 use rhai_lower::Expr;
 use rhai_readers::{LentReaders, Shared, nested};
-use rhai_trees::{Chain, make_statement_value};
+use rhai_trees::Chain;
+use rhai_trees::statement::make_statement_value;
 
 impl<R: LentReaders> Reader<'_, R> {
     /// Reads an operand that is not one token, without its sign and without what calls it: a chain where it is a group.
@@ -29,8 +31,8 @@ impl<R: LentReaders> Reader<'_, R> {
         settings: ParseSettings,
     ) -> ParseResult<Chain>
         requires compound { is_plain (beginning (next_item (state_of shared.old)).lexeme) ≡ false }
-        requires lent { Covers (R.lent self.now.readers) (primary self.now.engine.now frame.now settings) shared.old }
-        ensures { ReadsAs self.now.engine.now frame.now settings 1 primary chain_view shared.old result shared.new }
+        requires lent { Lends R.lent self.now primary frame.now settings shared.old }
+        ensures { Reads self.now frame.now settings 1 primary chain_view shared.old result shared.new }
     {
         let alloc = self.engine.alloc();
         let (token, pos) = peek(shared.input)?;

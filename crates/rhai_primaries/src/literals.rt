@@ -1,10 +1,9 @@
 //! The readers of arrays, of object maps and of interpolated strings.
 
 ghost use Rattle.rhai_lower.specs.Nodes.{no_nodes, no_properties};
-ghost use Rattle.rhai_readers.specs.Readers.{Covers, ReadsAs, elements, fields, properties_of, segments};
+ghost use Rattle.rhai_readers.specs.Readers.{elements, fields, properties_of};
 ghost use Rattle.rhai_readers.specs.Readers.{views_of};
-ghost use Rattle.rhai_grammar.specs.Interpolations.{added_text};
-ghost use Rattle.std.specs.Rc.{rc_str_bytes};
+ghost use Rattle.rhai_primaries.specs.Readers.{Lends, Reads, segments_after};
 
 use crate::asks::next_key;
 use crate::reader::Reader;
@@ -18,7 +17,8 @@ use rhai_leaves::refusals::no_item;
 use rhai_leaves::strings::end_interpolation;
 use rhai_lower::{Expr, Ident, NamedList};
 use rhai_readers::{LentReaders, Shared};
-use rhai_trees::{make_block, push_segment, push_text};
+use rhai_trees::statement::make_block;
+use rhai_trees::{push_segment, push_text};
 use std::rc::RcStr;
 
 impl<R: LentReaders> Reader<'_, R> {
@@ -31,10 +31,8 @@ impl<R: LentReaders> Reader<'_, R> {
         frame: &Frame<'_>,
         settings: ParseSettings,
     ) -> ParseResult<Vec<Expr>>
-        requires lent { Covers (R.lent self.now.readers) (elements no_nodes self.now.engine.now frame.now settings)
-            shared.old }
-        ensures { ReadsAs self.now.engine.now frame.now settings 0 (elements no_nodes) views_of shared.old result
-            shared.new }
+        requires lent { Lends R.lent self.now (elements no_nodes) frame.now settings shared.old }
+        ensures { Reads self.now frame.now settings 0 (elements no_nodes) views_of shared.old result shared.new }
     {
         let limit = self.engine.max_array_size();
         let mut items = Vec::new(self.engine.alloc());
@@ -66,10 +64,8 @@ impl<R: LentReaders> Reader<'_, R> {
         frame: &Frame<'_>,
         settings: ParseSettings,
     ) -> ParseResult<Vec<(Ident, Expr)>>
-        requires lent { Covers (R.lent self.now.readers) (fields no_properties self.now.engine.now frame.now settings)
-            shared.old }
-        ensures { ReadsAs self.now.engine.now frame.now settings 0 (fields no_properties) properties_of shared.old
-            result shared.new }
+        requires lent { Lends R.lent self.now (fields no_properties) frame.now settings shared.old }
+        ensures { Reads self.now frame.now settings 0 (fields no_properties) properties_of shared.old result shared.new }
     {
         let mut properties = NamedList::new(self.engine.alloc());
         loop {
@@ -96,11 +92,8 @@ impl<R: LentReaders> Reader<'_, R> {
         settings: ParseSettings,
         first: RcStr,
     ) -> ParseResult<Vec<Expr>>
-        requires lent { Covers (R.lent self.now.readers)
-            (segments (added_text no_nodes (rc_str_bytes first) settings.pos) self.now.engine.now frame.now settings)
-            shared.old }
-        ensures { ReadsAs self.now.engine.now frame.now settings 0
-            (segments (added_text no_nodes (rc_str_bytes first) settings.pos)) views_of shared.old result shared.new }
+        requires lent { Lends R.lent self.now (segments_after first) frame.now settings shared.old }
+        ensures { Reads self.now frame.now settings 0 (segments_after first) views_of shared.old result shared.new }
     {
         let mut segments = Vec::new(self.engine.alloc());
         push_text(&mut segments, first, settings.pos)?;

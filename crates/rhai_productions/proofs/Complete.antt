@@ -59,7 +59,7 @@ module _ (rule : (g : Goal) → Production (Val g)) (same : (g : Goal) → Agree
     filled (given {x = x}) k s t b m =
         let r : (b : Bool) → Reaches (λ z. max 0 z) (Ret x) s b x k t = λ b. R.enough (λ z. omega arith) (R.ret m) in
         record { new = r b; seen = λ n. r true }
-    filled (take {w = w} {m = c} {k = q} {x = x} l at f) k s t b m =
+    filled (take {w = w} {m = c} {k = q} {r = Some x} l at f) k s t b m =
         let may = no_other (is_memory (op_at s)) m.0 in
         let r = R.if_true {c = w (op_at s)} (Fail (refusal (c (op_at s)) (pos_at s)))
         (or_wrong (w (op_at s)) (c (op_at s)) may.1) (takes _ may.0 (
@@ -67,7 +67,7 @@ module _ (rule : (g : Goal) → Production (Val g)) (same : (g : Goal) → Agree
         (past code s) false x k t) (sym m.1.0)
         (filled f k (past code s) t false m.1.1).new)) in
         record { new = looks _ may.0 r; seen = λ n. r }
-    filled (this {k = q} {x = x} l at f) k s t b m =
+    filled (this {k = q} {r = Some x} l at f) k s t b m =
         let may = no_other (is_memory (op_at s)) m.0 in
         let r = takes _ may.0 (subst (λ (i : Item). Reaches (λ z. max (F.depth_in rule f) z) (run (q i.lexeme i.at))
         (past code s) false x k t) (sym m.1.0)
@@ -82,13 +82,13 @@ module _ (rule : (g : Goal) → Production (Val g)) (same : (g : Goal) → Agree
         let may = no_other (is_memory (op_at s)) m.0 in
         let r = R.if_false _ (no_other (test (op_at s)) {v = Fine} may.1).0 ((filled f k s t true m.1).seen may.0) in
         record { new = looks _ may.0 r; seen = λ n. r }
-    filled (choose {v = v} {k = q} {x = x} l at f) k s t b m =
+    filled (choose {v = v} {k = q} {r = Some x} l at f) k s t b m =
         let may = no_other (is_memory (op_at s)) m.0 in
         let r = subst (λ (i : Item). Reaches (λ z. max (F.depth_in rule f) z) (run_from (q (view v i.lexeme))
         (Some (op_at s, pos_at s))) s true x k t) (sym m.1.0)
         ((filled f k s t true m.1.1).seen may.0) in
         record { new = looks _ may.0 r; seen = λ n. r }
-    filled (here {k = q} {x = x} l at f) k s t b m =
+    filled (here {k = q} {r = Some x} l at f) k s t b m =
         let may = no_other (is_memory (op_at s)) m.0 in
         let r = subst (λ (i : Item).
         Reaches (λ z. max (F.depth_in rule f) z) (run_from (q i.at) (Some (op_at s, pos_at s))) s true x k t)
@@ -113,7 +113,7 @@ module _ (rule : (g : Goal) → Production (Val g)) (same : (g : Goal) → Agree
           new = R.know (R.if_true _ m.0 (R.note (c s.library) u r.new));
           seen = λ n. R.know (R.if_true _ m.0 (R.note (c s.library) u (r.seen n)));
         }
-    filled (uses {v = v} {ok = ok} {e = e} {c = c} {u = u} {k = q} {x = x} l at f) k s t b m =
+    filled (uses {v = v} {ok = ok} {e = e} {c = c} {u = u} {k = q} {r = Some x} l at f) k s t b m =
         let may = no_other (is_memory (op_at s)) m.1.0 in
         let z = capturing (c s.library (op_at s)) u s in
         let r = R.know (R.if_true {c = ok s.library (op_at s)} (Fail e) (or_blames (ok s.library (op_at s)) e may.1)
@@ -123,20 +123,20 @@ module _ (rule : (g : Goal) → Production (Val g)) (same : (g : Goal) → Agree
         (sym m.0)
         ((filled f k z t true m.1.1).seen may.0)))) in
         record { new = looks _ may.0 r; seen = λ n. r }
-    filled (part {g = g} {k = q} {x = x} v f rest) k s t b m =
-        let d = F.depth_in rule (part {g = g} {k = q} {x = x} v f rest) in
+    filled (part {g = g} {k = q} {r = Some x} v f rest) k s t b m =
+        let d = F.depth_in rule (part {g = g} {k = q} {r = Some x} v f rest) in
         let r : (b : Bool) → Reaches (λ z. max d z) (run_from (S.part g q) None) s b x k t = λ b.
         part_of g (is_counted g) refl (F.depth rule f) (F.depth_in rule rest) (λ x. run (q x))
         (complete f (F.demanded rule rest k) s t b m) (λ u l n. (filled rest k u t l n).new) in
         record { new = r b; seen = λ n. r true }
-    filled (literal {g = g} {is = is} {k = q} {x = x} v f rest) k s t b m =
-        let d = F.depth_in rule (literal {g = g} {is = is} {k = q} {x = x} v f rest) in
+    filled (literal {g = g} {is = is} {k = q} {r = Some x} v f rest) k s t b m =
+        let d = F.depth_in rule (literal {g = g} {is = is} {k = q} {r = Some x} v f rest) in
         let r : (b : Bool) → Reaches (λ z. max d z) (run_from (S.literal g is q) None) s b x k t = λ b.
         R.enough (λ z. omega arith) (R.part_literal {E = λ z. max (F.depth_in rule rest) z} (F.depth rule f)
         {q = λ x. run (q x)} is (complete f Nothing s m.0 b m.1) (λ l. (filled rest k m.0 t l m.2).new)) in
         record { new = r b; seen = λ n. r true }
-    filled (F.apart {g = g} {k = q} {x = x} v us n f rest) k s t b m =
-        let d = F.depth_in rule (F.apart {g = g} {k = q} {x = x} v us n f rest) in
+    filled (F.apart {g = g} {k = q} {r = Some x} v us n f rest) k s t b m =
+        let d = F.depth_in rule (F.apart {g = g} {k = q} {r = Some x} v us n f rest) in
         let e = F.depth_in rule rest in
         let u = with_captured s.captured m.0 in
         let next : (l : Bool) → Reaches (λ z. max e z) (run (q v m.0.captured (closure_count m.0.library))) u l x k t =
@@ -148,7 +148,7 @@ module _ (rule : (g : Goal) → Production (Val g)) (same : (g : Goal) → Agree
         {q = λ x us. Know (λ fs. run (q x us (closure_count fs)))} (complete f Nothing (apart s) m.0 b m.1) (λ l.
         R.know (next l))) in
         record { new = r b; seen = λ n. r true }
-    filled (in_text {k = q} {x = x} closing l at f) k s t b m =
+    filled (in_text {k = q} {r = Some x} closing l at f) k s t b m =
         let r : (b : Bool) → Reaches (λ z. max (F.depth_in rule f) z) (run_from (S.in_text q) None) s b x k t = λ b.
         R.text_taken {i = item l at} m.1.0 m.1.1.1.0 m.1.1.0
         (filled f k (past text (past code s)) t false m.1.1.1.1).new in

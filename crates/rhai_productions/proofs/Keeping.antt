@@ -1,5 +1,5 @@
 -- What each production keeps holds of each form that fits. One induction over forms.
-use Rattle.std.proofs.Common.{ap, subst}
+use Rattle.std.proofs.Common.{Some, ap, subst}
 use Rattle.rhai_grammar.specs.Prelude.{Lexeme, Item, code, text, Point, Ended, Library, Fine, Demands, Nothing, Met}
 use Rattle.rhai_grammar.specs.Prelude.{with_ended, past, next_at, adding, capturing, with_captured}
 use Rattle.rhai_grammar.specs.Delivered as M
@@ -36,7 +36,7 @@ module _ (rule : (g : Goal) → Production (Val g)) (Right : (g : Goal) → Val 
         (s t : Point) → Met (F.demanded rule f k) s t → Keeps Right Good (λ y next. Right h y a next) p (op_at s)
         → Kept (λ next. Right h x a next) k s t
     keeps given b k s t m h = record { end = s; met = m; right = h; all = λ a. a }
-    keeps (take {h = j} {w = w} {m = c} {k = q} {x = x} l at f) b k s t m h =
+    keeps (take {h = j} {w = w} {m = c} {k = q} {r = Some x} l at f) b k s t m h =
         let u = past code s in
         let is = or_wrong (w (op_at s)) (c (op_at s)) (fine (F.wanted_or w c) (op_at s) m.0).1 in
         let on : Keeps Right Good (λ y next. Right j y b next) (q l at) (op_at u) =
@@ -44,7 +44,7 @@ module _ (rule : (g : Goal) → Production (Val g)) (Right : (g : Goal) → Val 
         (h is (next_at code s).at (op_at u)) in
         let r = keeps f b k u t m.1.1 on in
         record { end = r.end; met = r.met; right = r.right; all = r.all }
-    keeps (this {h = j} {k = q} {x = x} l at f) b k s t m h =
+    keeps (this {h = j} {k = q} {r = Some x} l at f) b k s t m h =
         let u = past code s in
         let on : Keeps Right Good (λ y next. Right j y b next) (q l at) (op_at u) =
         subst (λ (i : Item). Keeps Right Good (λ y next. Right j y b next) (q i.lexeme i.at) (op_at u)) m.1.0

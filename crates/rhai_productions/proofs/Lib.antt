@@ -28,6 +28,7 @@ pub mod StartLemmas
 pub mod Fits
 pub mod BeginningParts
 pub mod Beginnings
+pub mod TreesIf
 pub mod Ordering
 pub mod OrderCauses
 pub mod OrdersOfOperands

@@ -1,5 +1,5 @@
 -- Productions that keep libraries orderly, and what follows of their forms. One induction over forms.
-use Rattle.std.proofs.Common.{◌≡◌, ◌⊎◌, inl, inr, ℕ, Bool, true, false, List, refl, sym, subst, arith}
+use Rattle.std.proofs.Common.{◌≡◌, ◌⊎◌, inl, inr, ℕ, Bool, true, false, Option, List, refl, sym, subst, arith}
 use Rattle.rhai_grammar.specs.Prelude.{Lexeme, Position, Item, Mode, code, text, Point, Use, Library, Refusal, Verdict}
 use Rattle.rhai_grammar.specs.Prelude.{Demands, Nothing, Met, Missed, with_ended, past, next_at, adding, capturing}
 use Rattle.rhai_grammar.specs.Prelude.{with_captured, unexpected, is_text, Fine, Wrong, Blames, Otherwise, is_due}
@@ -18,6 +18,7 @@ use Rattle.rhai_grammar.specs.Productions as S
 use Rattle.rhai_grammar.specs.Forms as F
 use Rattle.rhai_grammar.specs.Forms.{given, take, this, if_so, if_not, choose, here, must, knows, adds, uses}
 use Rattle.rhai_grammar.specs.Forms.{captures, part, apart, in_text, form}
+use Rattle.rhai_productions.proofs.TreesIf.{RightIf}
 
 -- a cause that is not that a closure's key is there
 abbrev pub Spared : Refusal → Type 0
@@ -195,9 +196,15 @@ module _ (limit : ℕ) (Begun : ℕ → Goal → Type 0) (Right : (g : Goal) →
       fails (form {g = g} f) b k s e n t i o m =
           fails_in f b k s e n t (within b s.library o) (table g b s.library i o) m
 
-      fails_in : {h : Goal} {p : Production (Val h)} {x : Val h} (f : F.Filled rule h p x) (b : ℕ) (k : Demands)
-          (s : Point) (e : Refusal) (n : Mode) (t : Point) → Within s.library → Orders b (Right h) p s.library
-          → Missed (F.demanded rule f k) s e n t → Fails b k e n t (Right h x)
+      pub stops : {g : Goal} (f : F.Open rule g) (b : ℕ) (s : Point) (e : Refusal) (n : Mode) (t : Point) → Begun b g
+          → Kept limit b s.library → Missed (F.stops rule f) s e n t → Left e t
+      stops (F.open_form {g = g} f) b s e n t i o m =
+          inside b e n t (fails_in f b Nothing s e n t (within b s.library o) (table g b s.library i o) m)
+
+      fails_in : {h : Goal} {p : Production (Val h)} {r : Option (Val h)} (f : F.FilledIn rule h p r) (b : ℕ)
+          (k : Demands) (s : Point) (e : Refusal) (n : Mode) (t : Point) → Within s.library
+          → Orders b (Right h) p s.library → Missed (F.demanded rule f k) s e n t
+          → Fails b k e n t (RightIf Right h r)
       fails_in given b k s e n t w o m = inr (record { from = s; missed = m; right = o.0; kept = o.1 })
       fails_in (take {w = is} {m = miss} l at f) b k s e n t w o m =
           token_or (next_at code s) s t e (wanted is miss o.0) w m inl (λ m.
@@ -245,84 +252,23 @@ module _ (limit : ℕ) (Begun : ℕ → Goal → Type 0) (Right : (g : Goal) →
           token_or (next_at code s) s t e brace w m inl (λ m. token_or (next_at code s) s t e after w m inl (λ m.
           token_or (next_at text (past code s)) (past code s) t e a_text w m.1 inl (λ m.
           fails_in f b k (past text (past code s)) e n t w (o closing l at) m)))
-
-    mutual
-      pub stops : {g : Goal} (f : F.Open rule g) (b : ℕ) (s : Point) (e : Refusal) (n : Mode) (t : Point) → Begun b g
-          → Kept limit b s.library → Missed (F.stops rule f) s e n t → Left e t
-      stops (F.open_form {g = g} f) b s e n t i o m =
-          stops_in f b s e n t (within b s.library o) (table g b s.library i o) m
-
-      stops_in : {h : Goal} {p : Production (Val h)} (f : F.Stopped rule h p) (b : ℕ) (s : Point) (e : Refusal)
-          (n : Mode) (t : Point) → Within s.library → Orders b (Right h) p s.library → Missed (F.stopped rule f) s e n t
-          → Left e t
-      stops_in (F.never_here {why = why}) b s e n t w o m =
-          token_or (next_at code s) s t e (refusing why o) w m (λ a. a) (λ m. absurd m)
-      stops_in (F.take_here {w = is} {m = miss}) b s e n t w o m =
-          token_or (next_at code s) s t e (wanted is miss o.0) w m (λ a. a) (λ m. absurd m)
-      stops_in (F.must_here {e = why}) b s e n t w o m = test_or s t e why o.0 w m (λ a. a) (λ is m. absurd m)
-      stops_in (F.knows_here {e = why}) b s e n t w o m = test_or s t e why o.0 w m (λ a. a) (λ is m. absurd m)
-      stops_in (F.uses_here {ok = ok} {e = why}) b s e n t w o m =
-          token_or (next_at code s) s t e (known ok why s.library o.0) w m (λ a. a) (λ m. absurd m)
-      stops_in (F.captures_here {e = why}) b s e n t w o m =
-          test_or s t e why (λ is. o.0) w m (λ a. a) (λ is m. absurd m)
-      stops_in F.brace_here b s e n t w o m = token_or (next_at code s) s t e brace w m (λ a. a) (λ m. absurd m)
-      stops_in (F.text_here closing) b s e n t w o m =
-          token_or (next_at code s) s t e brace w m (λ a. a)
-          (λ m. token_or (next_at code s) s t e after w m (λ a. a) (λ m.
-          token_or (next_at text (past code s)) (past code s) t e a_text w m (λ a. a) (λ m. absurd m)))
-      stops_in (F.part_here f) b s e n t w o m = stops f o.0 s e n t o.2 o.1 m
-      stops_in (F.literal_here f) b s e n t w o (inl m) =
-          as_left m.0 e t m.2 (stops f o.0 s m.0 n t o.2 o.1 m.1)
-      stops_in (F.literal_here f) b s e n t w o (inr m) = absurd m.2
-      stops_in (F.apart_here f) b s e n t w o (inl m) = stops f o.0 (M.apart s) e n t o.2 o.1 m
-      stops_in (F.apart_here f) b s e n t w o (inr m) = absurd m.3
-      stops_in (F.take {w = is} {m = miss} l at f) b s e n t w o m =
-          token_or (next_at code s) s t e (wanted is miss o.0) w m (λ a. a)
-          (λ m. token_or (next_at code s) s t e after w m (λ a. a) (λ m.
-          stops_in f b (past code s) e n t w (o.1 l at) m))
-      stops_in (F.this l at f) b s e n t w o m =
-          token_or (next_at code s) s t e any w m (λ a. a)
-          (λ m. token_or (next_at code s) s t e after w m (λ a. a) (λ m.
-          stops_in f b (past code s) e n t w (o l at) m))
-      stops_in (F.if_so {t = is} f) b s e n t w o m =
-          token_or (next_at code s) s t e (decided is) w m (λ a. a) (λ m. stops_in f b s e n t w o.0 m)
-      stops_in (F.if_not {t = is} f) b s e n t w o m =
-          token_or (next_at code s) s t e (undecided is) w m (λ a. a) (λ m. stops_in f b s e n t w o.1 m)
-      stops_in (F.choose {v = v} l at f) b s e n t w o m =
-          token_or (next_at code s) s t e any w m (λ a. a)
-          (λ m. token_or (next_at code s) s t e after w m (λ a. a) (λ m.
-          stops_in f b s e n t w (o (view v l) l refl) m))
-      stops_in (F.here l at f) b s e n t w o m =
-          token_or (next_at code s) s t e any w m (λ a. a)
-          (λ m. token_or (next_at code s) s t e after w m (λ a. a) (λ m.
-          stops_in f b s e n t w (o at) m))
-      stops_in (F.must {e = why} f) b s e n t w o m =
-          test_or s t e why o.0 w m (λ a. a) (λ is m. stops_in f b s e n t w (o.1 is) m)
-      stops_in (F.knows {e = why} f) b s e n t w o m =
-          test_or s t e why o.0 w m (λ a. a) (λ is m. stops_in f b s e n t w (o.1 is) m)
-      stops_in (F.adds {f = x} f) b s e n t w o m = stops_in f b (adding x s) e n t o.0 o.1 m.1
-      stops_in (F.uses {v = v} {ok = ok} {e = why} {c = c} {u = u} l at f) b s e n t w o m =
-          token_or (next_at code s) s t e after w m (λ a. a) (λ m.
-          token_or (next_at code s) s t e (known ok why s.library o.0) w m (λ a. a) (λ m.
-          stops_in f b (capturing (c s.library (next_at code s).lexeme) u s) e n t w (o.1 (v l)) m))
-      stops_in (F.captures {e = why} {c = c} {u = u} f) b s e n t w o m =
-          test_or s t e why (λ is. o.0) w m (λ a. a) (λ is m. stops_in f b (capturing (c s.library) u s) e n t w o.1 m)
-      stops_in (F.part v f rest) b s e n t w o m =
-          then_ (fails f o.0 (F.stopped rule rest) s e n t o.2 o.1 m) (λ a. a) (λ u r h m.
-          stops_in rest b u e n t (within o.0 u.library h) (o.3 v u.library r h) m)
-      stops_in (F.literal v f rest) b s e n t w o (inl m) =
-          as_left m.0 e t m.2 (inside o.0 m.0 n t (fails f o.0 Nothing s m.0 n t o.2 o.1 m.1))
-      stops_in (F.literal {g = g} v f rest) b s e n t w o (inr m) =
-          let a = ended (Right g v) o.0 m.0 (ordered f o.0 Nothing s m.0 o.2 o.1 m.1) in
-          stops_in rest b m.0 e n t (within o.0 m.0.library a.1) (o.3 v m.0.library a.0 a.1) m.2
-      stops_in (F.apart v us i f rest) b s e n t w o (inl m) =
-          inside o.0 e n t (fails f o.0 Nothing (M.apart s) e n t o.2 o.1 m)
-      stops_in (F.apart {h = h} {g = g} {k = q} v us i f rest) b s e n t w o (inr m) =
-          let a = ended (Right g v) o.0 m.0 (ordered f o.0 Nothing (M.apart s) m.0 o.2 o.1 m.1) in
-          stops_in rest b (with_captured s.captured m.0) e n t (within o.0 m.0.library a.1)
-          (subst (λ i. Orders b (Right h) (q v us i) m.0.library) m.2.0 (o.3 v us m.0.library a.0 a.1)) m.3
-      stops_in (F.in_text closing l at f) b s e n t w o m =
-          token_or (next_at code s) s t e brace w m (λ a. a)
-          (λ m. token_or (next_at code s) s t e after w m (λ a. a) (λ m.
-          token_or (next_at text (past code s)) (past code s) t e a_text w m.1 (λ a. a) (λ m.
-          stops_in f b (past text (past code s)) e n t w (o closing l at) m)))
+      fails_in (F.never_here {why = why}) b k s e n t w o m =
+          token_or (next_at code s) s t e (refusing why o) w m inl (λ m. absurd m)
+      fails_in (F.take_here {w = is} {m = miss}) b k s e n t w o m =
+          token_or (next_at code s) s t e (wanted is miss o.0) w m inl (λ m. absurd m)
+      fails_in (F.must_here {e = why}) b k s e n t w o m = test_or s t e why o.0 w m inl (λ is m. absurd m)
+      fails_in (F.knows_here {e = why}) b k s e n t w o m = test_or s t e why o.0 w m inl (λ is m. absurd m)
+      fails_in (F.uses_here {ok = ok} {e = why}) b k s e n t w o m =
+          token_or (next_at code s) s t e (known ok why s.library o.0) w m inl (λ m. absurd m)
+      fails_in (F.captures_here {e = why}) b k s e n t w o m =
+          test_or s t e why (λ is. o.0) w m inl (λ is m. absurd m)
+      fails_in F.brace_here b k s e n t w o m = token_or (next_at code s) s t e brace w m inl (λ m. absurd m)
+      fails_in (F.text_here closing) b k s e n t w o m =
+          token_or (next_at code s) s t e brace w m inl (λ m. token_or (next_at code s) s t e after w m inl (λ m.
+          token_or (next_at text (past code s)) (past code s) t e a_text w m inl (λ m. absurd m)))
+      fails_in (F.part_here f) b k s e n t w o m = inl (stops f o.0 s e n t o.2 o.1 m)
+      fails_in (F.literal_here f) b k s e n t w o (inl m) =
+          inl (as_left m.0 e t m.2 (stops f o.0 s m.0 n t o.2 o.1 m.1))
+      fails_in (F.literal_here f) b k s e n t w o (inr m) = absurd m.2
+      fails_in (F.apart_here f) b k s e n t w o (inl m) = inl (stops f o.0 (M.apart s) e n t o.2 o.1 m)
+      fails_in (F.apart_here f) b k s e n t w o (inr m) = absurd m.3

@@ -1,6 +1,6 @@
 -- After a refusal the functions are the first of those that end in the open form.
-use Rattle.std.proofs.Common.{◌≡◌, inl, inr, Bool, List, [], ◌∷◌, ◌++◌, append-nil, append_assoc, refl, ap, ◌∙◌, sym}
-use Rattle.std.proofs.Common.{subst}
+use Rattle.std.proofs.Common.{◌≡◌, inl, inr, Bool, Option, List, [], ◌∷◌, ◌++◌, append-nil, append_assoc, refl, ap}
+use Rattle.std.proofs.Common.{◌∙◌, sym, subst}
 use Rattle.std.specs.Prelude.{◌⊎◌}
 use Rattle.rhai_grammar.specs.Prelude.{Mode, code, text, Taken, Point, Use, Ended, Library, Refusal, Demands, Nothing}
 use Rattle.rhai_grammar.specs.Prelude.{Missed, with_ended, past, next_at, adding, capturing, with_captured}
@@ -119,12 +119,6 @@ moved : (m : Mode) {es : List Event} {k : Demands} {s : Point} {e : Refusal} {n 
 moved m (inl h) = inl h
 moved m (inr l) = inr (record { from = l.from; missed = l.missed; library = l.library })
 
-first_or : (a b : List Event) {j : Demands} (s : Point) {e : Refusal} {n : Mode} (t : Point) → Fails a j s e n t
-    → ((u : Point) → Missed j u e n t → HoldsFirst u.library (ended_in b) t.library) → HoldsFirst s.library
-    (ended_in (a ++ b)) t.library
-first_or a b s t (inl h) go = holds_front a b s.library t.library h
-first_or a b s t (inr l) go = holds_later a b s.library l.from.library t.library l.library (go l.from l.missed)
-
 -- nothing is missed after it
 inside : {es : List Event} {s : Point} {e : Refusal} {n : Mode} {t : Point} → Fails es Nothing s e n t
     → HoldsFirst s.library (ended_in es) t.library
@@ -144,9 +138,13 @@ module _ (rule : (g : Goal) → Production (Val g)) where
         → Missed (F.demands rule f k) s e n t → Fails (D.events rule f) k s e n t
     fails (form f) k s e n t m = fails_in f k s e n t m
 
-    fails_in : {h : Goal} {p : Production (Val h)} {x : Val h} (f : F.Filled rule h p x) (k : Demands) (s : Point)
-        (e : Refusal) (n : Mode) (t : Point) → Missed (F.demanded rule f k) s e n t → Fails (D.events_in rule f) k s e
-        n t
+    stops : {g : Goal} (f : F.Open rule g) (s : Point) (e : Refusal) (n : Mode) (t : Point) → Missed (F.stops rule f) s
+        e n t → HoldsFirst s.library (ended_in (D.stop_events rule f)) t.library
+    stops (F.open_form f) s e n t m = inside (fails_in f Nothing s e n t m)
+
+    fails_in : {h : Goal} {p : Production (Val h)} {r : Option (Val h)} (f : F.FilledIn rule h p r) (k : Demands)
+        (s : Point) (e : Refusal) (n : Mode) (t : Point) → Missed (F.demanded rule f k) s e n t
+        → Fails (D.events_in rule f) k s e n t
     fails_in given k s e n t m = inr (record { from = s; missed = m; library = refl })
     fails_in (take l at f) k s e n t m = missed_or m (absent (D.events_in rule f)) (λ m.
         missed_or m (absent (D.events_in rule f)) (λ m. moved code (fails_in f k (past code s) e n t m)))
@@ -186,70 +184,21 @@ module _ (rule : (g : Goal) → Production (Val g)) where
         missed_or m (absent (D.events_in rule f)) (λ m.
         missed_or m.1 (λ z. inl (holds_past_so (D.events_in rule f) s t z)) (λ m.
         moved code (moved text (fails_in f k (past text (past code s)) e n t m)))))
-
-  mutual
-    stops : {g : Goal} (f : F.Open rule g) (s : Point) (e : Refusal) (n : Mode) (t : Point) → Missed (F.stops rule f) s
-        e n t → HoldsFirst s.library (ended_in (D.stop_events rule f)) t.library
-    stops (F.open_form f) s e n t m = stops_in f s e n t m
-
-    stops_in : {h : Goal} {p : Production (Val h)} (f : F.Stopped rule h p) (s : Point) (e : Refusal) (n : Mode)
-        (t : Point) → Missed (F.stopped rule f) s e n t → HoldsFirst s.library (ended_in (D.stop_events_in rule f))
-        t.library
-    stops_in F.never_here s e n t m = missed_or m (holds_none [] s t) (λ m. absurd m)
-    stops_in F.take_here s e n t m = missed_or m (holds_none [] s t) (λ m. absurd m)
-    stops_in F.must_here s e n t m = test_or m (holds_none [] s t) (λ m. absurd m)
-    stops_in F.knows_here s e n t m = test_or m (holds_none [] s t) (λ m. absurd m)
-    stops_in F.uses_here s e n t m = missed_or m (holds_none [] s t) (λ m. absurd m)
-    stops_in F.captures_here s e n t m = test_or m (holds_none [] s t) (λ m. absurd m)
-    stops_in F.brace_here s e n t m = missed_or m (holds_none [] s t) (λ m. absurd m)
-    stops_in (F.text_here closing) s e n t m =
-        missed_or m (holds_none [] s t) (λ m. missed_or m (holds_none [] s t) (λ m. missed_or m (λ z. holds_past s t z)
+    fails_in F.never_here k s e n t m = missed_or m (absent []) (λ m. absurd m)
+    fails_in F.take_here k s e n t m = missed_or m (absent []) (λ m. absurd m)
+    fails_in F.must_here k s e n t m = test_or m (absent []) (λ m. absurd m)
+    fails_in F.knows_here k s e n t m = test_or m (absent []) (λ m. absurd m)
+    fails_in F.uses_here k s e n t m = missed_or m (absent []) (λ m. absurd m)
+    fails_in F.captures_here k s e n t m = test_or m (absent []) (λ m. absurd m)
+    fails_in F.brace_here k s e n t m = missed_or m (absent []) (λ m. absurd m)
+    fails_in (F.text_here closing) k s e n t m =
+        missed_or m (absent []) (λ m. missed_or m (absent []) (λ m. missed_or m (λ z. inl (holds_past s t z))
         (λ m. absurd m)))
-    stops_in (F.part_here f) s e n t m = stops f s e n t m
-    stops_in (F.literal_here f) s e n t (inl w) = stops f s w.0 n t w.1
-    stops_in (F.literal_here f) s e n t (inr w) = absurd w.2
-    stops_in (F.apart_here f) s e n t (inl m) = stops f (M.apart s) e n t m
-    stops_in (F.apart_here f) s e n t (inr w) = absurd w.3
-    stops_in (F.take l at f) s e n t m = missed_or m (holds_none (D.stop_events_in rule f) s t) (λ m.
-        missed_or m (holds_none (D.stop_events_in rule f) s t) (λ m. stops_in f (past code s) e n t m))
-    stops_in (F.this l at f) s e n t m = missed_or m (holds_none (D.stop_events_in rule f) s t) (λ m.
-        missed_or m (holds_none (D.stop_events_in rule f) s t) (λ m. stops_in f (past code s) e n t m))
-    stops_in (F.if_so f) s e n t m = missed_or m (holds_none (D.stop_events_in rule f) s t) (λ m. stops_in f s e n t m)
-    stops_in (F.if_not f) s e n t m = missed_or m (holds_none (D.stop_events_in rule f) s t) (λ m. stops_in f s e n t m)
-    stops_in (F.choose l at f) s e n t m = missed_or m (holds_none (D.stop_events_in rule f) s t) (λ m.
-        missed_or m (holds_none (D.stop_events_in rule f) s t) (λ m. stops_in f s e n t m))
-    stops_in (F.here l at f) s e n t m = missed_or m (holds_none (D.stop_events_in rule f) s t) (λ m.
-        missed_or m (holds_none (D.stop_events_in rule f) s t) (λ m. stops_in f s e n t m))
-    stops_in (F.must f) s e n t m = test_or m (holds_none (D.stop_events_in rule f) s t) (λ m. stops_in f s e n t m)
-    stops_in (F.knows f) s e n t m = test_or m (holds_none (D.stop_events_in rule f) s t) (λ m. stops_in f s e n t m)
-    stops_in (F.adds {f = x} f) s e n t m = holds_one x (D.stop_events_in rule f) s.library t.library
-        (stops_in f (adding x s) e n t m.1)
-    stops_in (F.uses {c = c} {u = u} l at f) s e n t m = missed_or m (holds_none (D.stop_events_in rule f) s t) (λ m.
-        missed_or m (holds_none (D.stop_events_in rule f) s t) (λ m.
-        stops_in f (capturing (c s.library (next_at code s).lexeme) u s) e n t m))
-    stops_in (F.captures {c = c} {u = u} f) s e n t m =
-        test_or m (holds_none (D.stop_events_in rule f) s t) (λ m. stops_in f (capturing (c s.library) u s) e n t m)
-    stops_in (F.part v f rest) s e n t m = first_or (D.events rule f) (D.stop_events_in rule rest) s t
-        (fails f (F.stopped rule rest) s e n t m)
-        (λ u m. stops_in rest u e n t m)
-    stops_in (F.literal v f rest) s e n t (inl w) =
-        holds_front (D.events rule f) (D.stop_events_in rule rest) s.library t.library
-        (inside (fails f Nothing s w.0 n t w.1))
-    stops_in (F.literal v f rest) s e n t (inr w) =
-        holds_later (D.events rule f) (D.stop_events_in rule rest) s.library w.0.library t.library
-        (reached (passes rule f Nothing s w.0 w.1))
-        (stops_in rest w.0 e n t w.2)
-    stops_in (F.apart v us i f rest) s e n t (inl m) =
-        holds_front (ends_only (D.events rule f)) (D.stop_events_in rule rest) s.library t.library
-        (own (D.events rule f) s.library t.library (inside (fails f Nothing (M.apart s) e n t m)))
-    stops_in (F.apart v us i f rest) s e n t (inr w) =
-        holds_later (ends_only (D.events rule f)) (D.stop_events_in rule rest) s.library w.0.library t.library
-        (reached (passes rule f Nothing (M.apart s) w.0 w.1) ∙ sym (library_ends (D.events rule f) s.library))
-        (stops_in rest (with_captured s.captured w.0) e n t w.3)
-    stops_in (F.in_text closing l at f) s e n t m = missed_or m (holds_none (D.stop_events_in rule f) s t) (λ m.
-        missed_or m (holds_none (D.stop_events_in rule f) s t) (λ m.
-        missed_or m.1 (λ z. holds_past_so (D.stop_events_in rule f) s t z) (λ m.
-        stops_in f (past text (past code s)) e n t m)))
+    fails_in (F.part_here f) k s e n t m = inl (stops f s e n t m)
+    fails_in (F.literal_here f) k s e n t (inl w) = inl (stops f s w.0 n t w.1)
+    fails_in (F.literal_here f) k s e n t (inr w) = absurd w.2
+    fails_in (F.apart_here f) k s e n t (inl m) = inl (stops f (M.apart s) e n t m)
+    fails_in (F.apart_here f) k s e n t (inr w) = absurd w.3
 
   pub refused_after_events : (g : Goal) (f : F.Open rule g) (s t : Point) (e : Refusal) (m : Mode)
       → Missed (F.stops rule f) s e m t → HoldsFirst s.library (ended_in (D.stop_events rule f)) t.library

@@ -1,5 +1,5 @@
 -- Sound: what is read by a production is the tree of a form, and a refusal comes with an open form.
-use Rattle.std.proofs.Common.{◌≡◌, ℕ, zero, suc, Bool, true, false, Some, None, List, refl, ap, ◌∙◌, sym, subst}
+use Rattle.std.proofs.Common.{◌≡◌, ℕ, zero, suc, Bool, true, false, Option, Some, None, List, refl, ap, ◌∙◌, sym, subst}
 use Rattle.std.proofs.Common.{if◌then◌else◌}
 use Rattle.rhai_lower.specs.declared.token.Token.TheVariants as token
 use Rattle.rhai_grammar.specs.Prelude.{Mode, Lexeme, Sign, Position, Cause, Refusal, refusal, Item, item, code, text}
@@ -34,47 +34,44 @@ module _ (rule : (g : Goal) → Production (Val g)) where
     pub on : (k : Demands) (o : Aim) → Way k t o → Way (F.demanded rule form k) s o
 
   pub record Halts (h : Goal) (p : Production (Val h)) (s : Point) (e : Refusal) (u : State) : Type 0 where
-    pub form : F.Stopped rule h p
-    pub stops : Way (F.stopped rule form) s (Astray e u.mode u.point)
+    pub form : F.FilledIn rule h p None
+    pub stops : Way (F.demanded rule form Nothing) s (Astray e u.mode u.point)
     pub last : StandsAtLast e (cursor u)
 
   abbrev Goes : Histories → (h : Goal) → Production (Val h) → (from : Point) → Prog (Val h) → Point → Bool → Type 0
   Goes call h p from q s b = Shows call (Read h p from) (Halts h p from) q s b
 
-  -- what is shown of the rest is shown of the whole
-  rest_by : (h : Goal) (p q : Production (Val h)) (from t : Point)
-      → ((x : Val h) (f : F.Filled rule h p x) → (g : F.Filled rule h q x)
-      × ((k : Demands) (o : Aim) → Way (F.demanded rule f k) t o → Way (F.demanded rule g k) from o))
-      → ((f : F.Stopped rule h p) → (g : F.Stopped rule h q)
-      × ((e : Refusal) (n : Mode) (u : Point) → Way (F.stopped rule f) t (Astray e n u)
-      → Way (F.stopped rule g) from (Astray e n u)))
-      → (o : Outcome (Val h)) → Ensures (Read h p t) (Halts h p t) o → Ensures (Read h q from) (Halts h q from) o
-  rest_by h p q from t done halts (Done x u) r =
-      let g = done x r.1.form in (r.0, record { form = g.0; on = λ k o w. g.1 k o (r.1.on k o w) })
-  rest_by h p q from t done halts (Refused e u) r = λ m.
-      let w = r m in
-      let g = halts w.form in
-      record { form = g.0; stops = g.1 e u.mode u.point w.stops; last = w.last }
-  rest_by h p q from t done halts Unfinished r = tt
+  -- What is written of one production from a point on, with or without a tree, is written of another one from
+  -- another point on, in the same way.
+  abbrev Leads : (h : Goal) (p q : Production (Val h)) (from to : Point) → Type 0
+  Leads h p q from to = (r : Option (Val h)) (f : F.FilledIn rule h p r) → (g : F.FilledIn rule h q r)
+      × ((k : Demands) (o : Aim) → Way (F.demanded rule f k) to o → Way (F.demanded rule g k) from o)
 
-  then_ : {call : Histories} (h : Goal) (p q : Production (Val h)) (from t : Point)
-      → ((x : Val h) (f : F.Filled rule h p x) → (g : F.Filled rule h q x)
-      × ((k : Demands) (o : Aim) → Way (F.demanded rule f k) t o → Way (F.demanded rule g k) from o))
-      → ((f : F.Stopped rule h p) → (g : F.Stopped rule h q)
-      × ((e : Refusal) (n : Mode) (u : Point) → Way (F.stopped rule f) t (Astray e n u)
-      → Way (F.stopped rule g) from (Astray e n u)))
+  -- what is shown of the rest is shown of the whole
+  rest_by : (h : Goal) (p q : Production (Val h)) (from t : Point) → Leads h p q from t
+      → (o : Outcome (Val h)) → Ensures (Read h p t) (Halts h p t) o → Ensures (Read h q from) (Halts h q from) o
+  rest_by h p q from t leads (Done x u) r =
+      let g = leads (Some x) r.1.form in (r.0, record { form = g.0; on = λ k o w. g.1 k o (r.1.on k o w) })
+  rest_by h p q from t leads (Refused e u) r = λ m.
+      let w = r m in
+      let g = leads None w.form in
+      record { form = g.0; stops = g.1 Nothing (Astray e u.mode u.point) w.stops; last = w.last }
+  rest_by h p q from t leads Unfinished r = tt
+
+  then_ : {call : Histories} (h : Goal) (p q : Production (Val h)) (from t : Point) → Leads h p q from t
       → {r : Prog (Val h)} {s : Point} {b : Bool} → Goes call h p t r s b → Goes call h q from r s b
-  then_ h p q from t done halts g = record { shown = rest_by h p q from t done halts _ g.shown }
+  then_ h p q from t leads g = record { shown = rest_by h p q from t leads _ g.shown }
 
   -- the token that was looked at is refused
-  refuse : {call : Histories} (h : Goal) (p : Production (Val h)) (s : Point) {c : Cause} (f : F.Stopped rule h p)
-      → Way (F.stopped rule f) s (Lost (refusal c (pos_at s)) s) → Goes call h p s (Fail (refusal c (pos_at s))) s true
+  refuse : {call : Histories} (h : Goal) (p : Production (Val h)) (s : Point) {c : Cause} (f : F.FilledIn rule h p None)
+      → Way (F.demanded rule f Nothing) s (Lost (refusal c (pos_at s)) s)
+      → Goes call h p s (Fail (refusal c (pos_at s))) s true
   refuse h p s f way = record { shown = λ w. record { form = f; stops = way; last = λ z. (refl, refl) } }
 
   -- for a cause with a position of its own
   halt : {call : Histories} (h : Goal) (p : Production (Val h)) (s : Point) (b : Bool) {e : Refusal}
-      (f : F.Stopped rule h p) → is_at_last e.cause ≡ false → Way (F.stopped rule f) s (Lost e s) → Goes call h p s
-      (Fail e) s b
+      (f : F.FilledIn rule h p None) → is_at_last e.cause ≡ false → Way (F.demanded rule f Nothing) s (Lost e s)
+      → Goes call h p s (Fail e) s b
   halt h p s b f early way = record {
     shown = λ w. record {
       form = f;
@@ -92,8 +89,7 @@ module _ (rule : (g : Goal) → Production (Val g)) where
   part_on h g k s b told rest =
       called told (λ e u w. record { form = F.part_here (F.open_form w.form); stops = w.stops; last = w.last })
       (λ v t c r. then_ h (k v) (S.part g k) s t
-      (λ x f. (F.part v (F.form r.form) f, λ j o w. r.on (F.demanded rule f j) o w))
-      (λ f. (F.part v (F.form r.form) f, λ e n u w. r.on (F.stopped rule f) (Astray e n u) w)) (rest v t c))
+      (λ tree f. (F.part v (F.form r.form) f, λ j o w. r.on (F.demanded rule f j) o w)) (rest v t c))
 
   literal_told : (g : Goal) (s : Point) (o : Outcome (Val g)) → Ensures (Read g (rule g) s) (Halts g (rule g) s) o
       → Ensures (Read g (rule g) s) (λ e u. (d : Refusal) × Halts g (rule g) s d u × (e ≡ as_literal d)
@@ -109,13 +105,12 @@ module _ (rule : (g : Goal) → Production (Val g)) where
   literal_on h g is k s b told rest =
       called_literal (record { told = literal_told g s _ told.told }) (λ e u w. record {
         form = F.literal_here (F.open_form w.1.form);
-        stops = subst (λ d. Way (F.stopped rule (F.literal_here {is = is} {k = k} (F.open_form w.1.form))) s
+        stops = subst (λ d. Way (F.demanded rule (F.literal_here {is = is} {k = k} (F.open_form w.1.form)) Nothing) s
             (Astray d u.mode u.point)) (sym w.2) (literally_lost w.1.stops);
         last = λ z. absurd (let y = sym w.3 ∙ z in cc);
       })
       (λ v t c r. then_ h (k v) (S.literal g is k) s t
-      (λ x f. (F.literal v (F.form r.form) f, λ j o w. literally (r.on Nothing (To t) here) w))
-      (λ f. (F.literal v (F.form r.form) f, λ e n u w. literally (r.on Nothing (To t) here) w)) (rest v t c))
+      (λ tree f. (F.literal v (F.form r.form) f, λ j o w. literally (r.on Nothing (To t) here) w)) (rest v t c))
 
   apart_on : {call : Histories} (h g : Goal) (k : Val g → List Use → ℕ → Production (Val h)) (s : Point) (b : Bool)
       → Tells (Read g (rule g) (apart s)) (Halts g (rule g) (apart s)) (call g (at (apart s) b))
@@ -131,8 +126,7 @@ module _ (rule : (g : Goal) → Production (Val g)) where
       let n = closure_count t.library in
       let u = with_captured s.captured t in
       know (then_ h (k v t.captured n) (S.apart g k) s u
-      (λ x f. (F.apart v t.captured n (F.form r.form) f, λ j o w. W.apart (r.on Nothing (To t) here) (refl, refl) w))
-      (λ f. (F.apart v t.captured n (F.form r.form) f, λ e m p w. W.apart (r.on Nothing (To t) here) (refl, refl) w))
+      (λ tree f. (F.apart v t.captured n (F.form r.form) f, λ j o w. W.apart (r.on Nothing (To t) here) (refl, refl) w))
       (rest v t.captured n u c)))
 
   -- ---- steps
@@ -153,8 +147,8 @@ module _ (rule : (g : Goal) → Production (Val g)) where
         let l = op_at s in
         let p = pos_at s in
         let any : Fits any_token s = fine m refl in
-        take (then_ h (k l p) (S.this k) s (past code s) (λ x f. (F.this l p f, λ j o w. any ▹ refl ▹ w))
-        (λ f. (F.this l p f, λ e n u w. any ▹ refl ▹ w)) ((rest l p).new (past code s) false))
+        take (then_ h (k l p) (S.this k) s (past code s) (λ tree f. (F.this l p f, λ j o w. any ▹ refl ▹ w))
+        ((rest l p).new (past code s) false))
 
     take_seen : (h : Goal) (wanted : Lexeme → Bool) (missing : Lexeme → Cause)
         (k : Lexeme → Position → Production (Val h)) → ((l : Lexeme) (p : Position) → Both call h (k l p))
@@ -167,12 +161,8 @@ module _ (rule : (g : Goal) → Production (Val g)) where
         either (wanted l)
         (λ is.
         let fits : Fits (wanted_or wanted missing) s = fine m (known true is) in
-        take (then_ h (k l p) (S.take wanted missing k) s (past code s) (λ x f. (
-          F.take l p f,
-          λ j o w. fits ▹ refl
-              ▹ w,
-        ))
-        (λ f. (F.take l p f, λ e n u w. fits ▹ refl ▹ w)) ((rest l p).new (past code s) false)))
+        take (then_ h (k l p) (S.take wanted missing k) s (past code s)
+        (λ tree f. (F.take l p f, λ j o w. fits ▹ refl ▹ w)) ((rest l p).new (past code s) false)))
         (λ other. refuse h (S.take wanted missing k) s F.take_here (ill m (known false other)))
 
     if_seen : (h : Goal) (t : Lexeme → Bool) (p q : Production (Val h)) → Both call h p → Both call h q → (s : Point)
@@ -181,37 +171,33 @@ module _ (rule : (g : Goal) → Production (Val g)) where
         either (t (op_at s))
         (λ is.
         let fits : Fits (only_if t) s = fine m (ap (λ b. if b then Fine else Otherwise) is) in
-        then_ h p (S.if_next t p q) s s (λ x f. (F.if_so f, λ j o w. fits ▹ w)) (λ f. (F.if_so f, λ e n u w. fits ▹ w))
+        then_ h p (S.if_next t p q) s s (λ tree f. (F.if_so f, λ j o w. fits ▹ w))
         (f.seen s m))
         (λ not.
         let fits : Fits (only_if_not t) s = fine m (ap (λ b. if b then Otherwise else Fine) not) in
-        then_ h q (S.if_next t p q) s s (λ x f. (F.if_not f, λ j o w. fits ▹ w)) (λ f. (
-          F.if_not f,
-          λ e n u w. fits
-              ▹ w,
-        )) (g.seen s m))
+        then_ h q (S.if_next t p q) s s (λ tree f. (F.if_not f, λ j o w. fits ▹ w)) (g.seen s m))
 
     choose_seen : (h : Goal) (v : View) (k : Seen v → Production (Val h)) → ((y : Seen v) → Both call h (k y))
         → (s : Point) → Told h (S.choose v k) s
     choose_seen h v k rest s m =
         let l = op_at s in
         let any : Fits any_token s = fine m refl in
-        then_ h (k (view v l)) (S.choose v k) s s (λ x f. (F.choose l (pos_at s) f, λ j o w. any ▹ refl ▹ w))
-        (λ f. (F.choose l (pos_at s) f, λ e n u w. any ▹ refl ▹ w)) ((rest (view v l)).seen s m)
+        then_ h (k (view v l)) (S.choose v k) s s (λ tree f. (F.choose l (pos_at s) f, λ j o w. any ▹ refl ▹ w))
+        ((rest (view v l)).seen s m)
 
     here_seen : (h : Goal) (k : Position → Production (Val h)) → ((p : Position) → Both call h (k p)) → (s : Point)
         → Told h (S.here k) s
     here_seen h k rest s m =
         let any : Fits any_token s = fine m refl in
-        then_ h (k (pos_at s)) (S.here k) s s (λ x f. (F.here (op_at s) (pos_at s) f, λ j o w. any ▹ refl ▹ w))
-        (λ f. (F.here (op_at s) (pos_at s) f, λ e n u w. any ▹ refl ▹ w)) ((rest (pos_at s)).seen s m)
+        then_ h (k (pos_at s)) (S.here k) s s (λ tree f. (F.here (op_at s) (pos_at s) f, λ j o w. any ▹ refl ▹ w))
+        ((rest (pos_at s)).seen s m)
 
     tested : (h : Goal) (t : Bool) (e : Refusal) (p : Production (Val h)) → is_at_last e.cause ≡ false
         → (q : Prog (Val h)) (s : Point) (b : Bool) → Goes call h p s q s b → Goes call h (S.must t e p) s
         (if t then q else Fail e) s b
     tested h t e p early q s b r =
         either t
-        (λ is. then_ h p (S.must t e p) s s (λ x f. (F.must f, λ j o w. is ▹ w)) (λ f. (F.must f, λ d n u w. is ▹ w)) r)
+        (λ is. then_ h p (S.must t e p) s s (λ tree f. (F.must f, λ j o w. is ▹ w)) r)
         (λ other. halt h (S.must t e p) s b F.must_here early (lost (other, refl)))
 
     tested_in : (h : Goal) (t : Library → Bool) (e : Refusal) (p : Production (Val h)) → is_at_last e.cause ≡ false
@@ -219,11 +205,7 @@ module _ (rule : (g : Goal) → Production (Val g)) where
         → Goes call h (S.knows t e p) s (if t s.library then q else Fail e) s b
     tested_in h t e p early q s b r =
         either (t s.library)
-        (λ is. then_ h p (S.knows t e p) s s (λ x f. (F.knows f, λ j o w. is ▹ w)) (λ f. (
-          F.knows f,
-          λ d n u w. is
-              ▹ w,
-        )) r)
+        (λ is. then_ h p (S.knows t e p) s s (λ tree f. (F.knows f, λ j o w. is ▹ w)) r)
         (λ other. halt h (S.knows t e p) s b F.knows_here early (lost (other, refl)))
 
     captured_in : (h : Goal) (ok : Library → Bool) (e : Refusal) (c : Library → Bool) (u : Use) (p : Production (Val h))
@@ -234,17 +216,13 @@ module _ (rule : (g : Goal) → Production (Val g)) where
     captured_in h ok e c u p early q s b r =
         either (ok s.library)
         (λ is. note (then_ h p (S.captures ok e c u p) s (capturing (c s.library) u s)
-        (λ x f. (F.captures f, λ j o w. is ▹ w)) (λ f. (F.captures f, λ d n v w. is ▹ w)) r))
+        (λ tree f. (F.captures f, λ j o w. is ▹ w)) r))
         (λ other. halt h (S.captures ok e c u p) s b F.captures_here early (lost (other, refl)))
 
     added : (h : Goal) (x : Ended) (p : Production (Val h)) {q : Prog (Val h)} (s : Point) (b : Bool)
         → Goes call h p (adding x s) q (adding x s) b → Goes call h (S.adds x p) s q (adding x s) b
     added h x p s b g =
-        then_ h p (S.adds x p) s (adding x s) (λ y f. (F.adds f, λ k o w. tt ▹ w)) (λ f. (
-          F.adds f,
-          λ e n u w. tt
-              ▹ w,
-        )) g
+        then_ h p (S.adds x p) s (adding x s) (λ tree f. (F.adds f, λ k o w. tt ▹ w)) g
 
     used : (h : Goal) (v : Lexeme → Bool) (ok : Library → Lexeme → Bool) (e : Refusal) (c : Library → Lexeme → Bool)
         (u : Use) (k : Bool → Production (Val h)) → is_at_last e.cause ≡ false → ((b : Bool) → Both call h (k b))
@@ -257,8 +235,7 @@ module _ (rule : (g : Goal) → Production (Val g)) where
         (λ is.
         let fits : Fits (may_use ok e s.library) s = fine m (known true is) in
         note (then_ h (k (v l)) (S.uses v ok e c u k) s (capturing (c s.library l) u s)
-        (λ x f. (F.uses l (pos_at s) f, λ j o w. refl ▹ fits ▹ w))
-        (λ f. (F.uses l (pos_at s) f, λ d n p w. refl ▹ fits ▹ w))
+        (λ tree f. (F.uses l (pos_at s) f, λ j o w. refl ▹ fits ▹ w))
         ((rest (v l)).seen (capturing (c s.library l) u s) m)))
         (λ other. halt h (S.uses v ok e c u k) s true F.uses_here early
         (lost (lost_at (may_use ok e s.library) s (Blames e) e m (known false other) refl))))
@@ -286,8 +263,7 @@ module _ (rule : (g : Goal) → Production (Val g)) where
           last = λ z. (refl, refl);
         })
         (λ due is. then_ h q (S.in_text k) s (past text (past code s))
-        (λ x f. (F.in_text (pos_at s) i.lexeme i.at f, λ j o w. fits due ▹ brace due ▹ is ▹ refl ▹ w))
-        (λ f. (F.in_text (pos_at s) i.lexeme i.at f, λ e n u w. fits due ▹ brace due ▹ is ▹ refl ▹ w))
+        (λ tree f. (F.in_text (pos_at s) i.lexeme i.at f, λ j o w. fits due ▹ brace due ▹ is ▹ refl ▹ w))
         ((rest (pos_at s) i.lexeme i.at).new (past text (past code s)) false))
 
     module _ (ih : (g : Goal) (s : Point) (b : Bool)

@@ -1,5 +1,6 @@
 -- Productions whose refusals stand at allowed positions, and what follows of their forms. One induction over forms.
-use Rattle.std.proofs.Common.{◌≡◌, ◌⊎◌, inl, inr, ℕ, Bool, true, false, List, [], refl, sym, subst, if◌then◌else◌}
+use Rattle.std.proofs.Common.{◌≡◌, ◌⊎◌, inl, inr, ℕ, Bool, true, false, Option, Some, None, List, [], refl, sym, subst}
+use Rattle.std.proofs.Common.{if◌then◌else◌}
 use Rattle.rhai_grammar.specs.Prelude.{Lexeme, Position, Mode, code, text, Point, Use, Library, Refusal, Verdict, Cause}
 use Rattle.rhai_grammar.specs.Prelude.{Demands, Nothing, Missed, is_text, Fine, Wrong, Blames, Otherwise, is_due}
 use Rattle.rhai_grammar.specs.Prelude.{not_due, unexpected, Test, ◌▸◌}
@@ -15,65 +16,53 @@ use Rattle.rhai_grammar.specs.Productions as S
 use Rattle.rhai_grammar.specs.Forms as F
 use Rattle.rhai_grammar.specs.Forms.{given, take, this, if_so, if_not, choose, must, knows, adds, uses, captures}
 use Rattle.rhai_grammar.specs.Forms.{part, literal, apart, in_text, form}
+use Rattle.rhai_productions.proofs.TreesIf.{RightIf}
 
 -- ---- in which mode tokens are requested: what looks at the next token, and takes none, does so in code mode
+
+-- nothing more, where there is no tree: then the last mode is that of code
+abbrev Last : {A : Type 0} → Option A → Mode → Type 0
+Last (Some x) n = Unit {0}
+Last None n = code ≡ n
 
 module _ (rule : (g : Goal) → Production (Val g)) where
   mutual
     modes : {g : Goal} {x : Val g} (f : F.Form rule g x) (k : Demands) (n : Mode) → Modes code n k
         → Modes code n (F.demands rule f k)
-    modes (form f) k n h = modes_in f k n h
+    modes (form f) k n h = modes_in f k n h tt
 
-    modes_in : {h : Goal} {p : Production (Val h)} {x : Val h} (f : F.Filled rule h p x) (k : Demands) (n : Mode)
-        → Modes code n k → Modes code n (F.demanded rule f k)
-    modes_in given k n h = h
-    modes_in (take l at f) k n h = (refl, code, modes_in f k n h)
-    modes_in (this l at f) k n h = (refl, code, modes_in f k n h)
-    modes_in (if_so f) k n h = modes_in f k n h
-    modes_in (if_not f) k n h = modes_in f k n h
-    modes_in (choose l at f) k n h = (refl, modes_in f k n h)
-    modes_in (F.here l at f) k n h = (refl, modes_in f k n h)
-    modes_in (must f) k n h = modes_in f k n h
-    modes_in (knows f) k n h = modes_in f k n h
-    modes_in (adds f) k n h = modes_in f k n h
-    modes_in (uses l at f) k n h = (refl, modes_in f k n h)
-    modes_in (captures f) k n h = modes_in f k n h
-    modes_in (part v f rest) k n h = modes f (F.demanded rule rest k) n (modes_in rest k n h)
-    modes_in (literal v f rest) k n h = (code, modes f Nothing code refl, modes_in rest k n h)
-    modes_in (apart v us i f rest) k n h = (code, modes f Nothing code refl, modes_in rest k n h)
-    modes_in (in_text closing l at f) k n h = (refl, text, λ is. (refl, code, modes_in f k n h))
-
-  mutual
     stop_modes : {g : Goal} (f : F.Open rule g) → Modes code code (F.stops rule f)
-    stop_modes (F.open_form f) = stop_modes_in f
+    stop_modes (F.open_form f) = modes_in f Nothing code refl refl
 
-    stop_modes_in : {h : Goal} {p : Production (Val h)} (f : F.Stopped rule h p) → Modes code code (F.stopped rule f)
-    stop_modes_in F.never_here = refl
-    stop_modes_in F.take_here = refl
-    stop_modes_in F.must_here = refl
-    stop_modes_in F.knows_here = refl
-    stop_modes_in F.uses_here = refl
-    stop_modes_in F.captures_here = refl
-    stop_modes_in F.brace_here = refl
-    stop_modes_in (F.text_here closing) = (refl, text, (refl, code, refl))
-    stop_modes_in (F.part_here f) = stop_modes f
-    stop_modes_in (F.literal_here f) = (code, stop_modes f, refl)
-    stop_modes_in (F.apart_here f) = (code, stop_modes f, refl)
-    stop_modes_in (F.take l at f) = (refl, code, stop_modes_in f)
-    stop_modes_in (F.this l at f) = (refl, code, stop_modes_in f)
-    stop_modes_in (F.if_so f) = stop_modes_in f
-    stop_modes_in (F.if_not f) = stop_modes_in f
-    stop_modes_in (F.choose l at f) = (refl, stop_modes_in f)
-    stop_modes_in (F.here l at f) = (refl, stop_modes_in f)
-    stop_modes_in (F.must f) = stop_modes_in f
-    stop_modes_in (F.knows f) = stop_modes_in f
-    stop_modes_in (F.adds f) = stop_modes_in f
-    stop_modes_in (F.uses l at f) = (refl, stop_modes_in f)
-    stop_modes_in (F.captures f) = stop_modes_in f
-    stop_modes_in (F.part v f rest) = modes f (F.stopped rule rest) code (stop_modes_in rest)
-    stop_modes_in (F.literal v f rest) = (code, modes f Nothing code refl, stop_modes_in rest)
-    stop_modes_in (F.apart v us n f rest) = (code, modes f Nothing code refl, stop_modes_in rest)
-    stop_modes_in (F.in_text closing l at f) = (refl, text, λ is. (refl, code, stop_modes_in f))
+    modes_in : {h : Goal} {p : Production (Val h)} {r : Option (Val h)} (f : F.FilledIn rule h p r) (k : Demands)
+        (n : Mode) → Modes code n k → Last r n → Modes code n (F.demanded rule f k)
+    modes_in given k n h e = h
+    modes_in F.never_here k n h e = e
+    modes_in (take l at f) k n h e = (refl, code, modes_in f k n h e)
+    modes_in F.take_here k n h e = e
+    modes_in (this l at f) k n h e = (refl, code, modes_in f k n h e)
+    modes_in (if_so f) k n h e = modes_in f k n h e
+    modes_in (if_not f) k n h e = modes_in f k n h e
+    modes_in (choose l at f) k n h e = (refl, modes_in f k n h e)
+    modes_in (F.here l at f) k n h e = (refl, modes_in f k n h e)
+    modes_in (must f) k n h e = modes_in f k n h e
+    modes_in F.must_here k n h e = e
+    modes_in (knows f) k n h e = modes_in f k n h e
+    modes_in F.knows_here k n h e = e
+    modes_in (adds f) k n h e = modes_in f k n h e
+    modes_in (uses l at f) k n h e = (refl, modes_in f k n h e)
+    modes_in F.uses_here k n h e = e
+    modes_in (captures f) k n h e = modes_in f k n h e
+    modes_in F.captures_here k n h e = e
+    modes_in (part v f rest) k n h e = modes f (F.demanded rule rest k) n (modes_in rest k n h e)
+    modes_in (F.part_here f) k n h e = subst (λ m. Modes code m (F.stops rule f)) e (stop_modes f)
+    modes_in (literal v f rest) k n h e = (code, modes f Nothing code refl, modes_in rest k n h e)
+    modes_in (F.literal_here f) k n h e = (code, stop_modes f, e)
+    modes_in (apart v us i f rest) k n h e = (code, modes f Nothing code refl, modes_in rest k n h e)
+    modes_in (F.apart_here f) k n h e = (code, stop_modes f, e)
+    modes_in (in_text closing l at f) k n h e = (refl, text, λ is. (refl, code, modes_in f k n h e))
+    modes_in F.brace_here k n h e = e
+    modes_in (F.text_here closing) k n h e = (refl, text, (refl, code, e))
 
 -- `G` says which positions are allowed. `Wants` says of a goal that the positions in it are, and `Right` of what it
 -- gives.
@@ -155,6 +144,11 @@ module _ (G : Position → Type 0) (Wants : Goal → Type 0) (Right : (g : Goal)
     ];
   }
 
+  -- what is demanded after it: nothing, where there is no tree
+  abbrev more_if : {A : Type 0} → Option A → Demands → Demands
+  more_if (Some x) k = k
+  more_if None k = Nothing
+
   module _ (rule : (g : Goal) → Production (Val g))
       (table : (g : Goal) → Wants g → Allows (λ x. Right g x) (rule g)) where
     mutual
@@ -162,63 +156,41 @@ module _ (G : Position → Type 0) (Wants : Goal → Type 0) (Right : (g : Goal)
           → AtTokens G (Right g x) (F.demands rule f k) k
       stands (form {g = g} f) k i = stands_in f k (table g i)
 
-      stands_in : {h : Goal} {p : Production (Val h)} {x : Val h} (f : F.Filled rule h p x) (k : Demands)
-          → Allows (λ x. Right h x) p → AtTokens G (Right h x) (F.demanded rule f k) k
+      -- so it is where a demand is missed
+      pub halts : {g : Goal} (f : F.Open rule g) → Wants g → AtTokens G (Unit {0}) (F.stops rule f) Nothing
+      halts (F.open_form {g = g} f) i = stands_in f Nothing (table g i)
+
+      stands_in : {h : Goal} {p : Production (Val h)} {r : Option (Val h)} (f : F.FilledIn rule h p r) (k : Demands)
+          → Allows (λ x. Right h x) p → AtTokens G (RightIf Right h r) (F.demanded rule f k) (more_if r k)
       stands_in given k h = done h
+      stands_in (F.never_here {why = why}) k h = next (refusing why) here
       stands_in (take {w = w} {m = m} l at f) k h = next (wanted w m) (tok no_other (λ a. stands_in f k (h l at a)))
+      stands_in (F.take_here {w = w} {m = m}) k h = next (wanted w m) here
       stands_in (this l at f) k h = next any (tok no_other (λ a. stands_in f k (h l at a)))
       stands_in (if_so {t = t} f) k h = next (decided t) (stands_in f k h.0)
       stands_in (if_not {t = t} f) k h = next (undecided t) (stands_in f k h.1)
       stands_in (choose {v = v} l at f) k h = next any (ahead no_other (λ a. stands_in f k (h (view v l))))
       stands_in (F.here l at f) k h = next any (ahead no_other (λ a. stands_in f k (h at a)))
       stands_in (must f) k h = test h.0 (stands_in f k h.1)
+      stands_in F.must_here k h = test h.0 here
       stands_in (knows f) k h = test_in h.0 (stands_in f k h.1)
+      stands_in F.knows_here k h = test_in h.0 here
       stands_in (adds f) k h = W.adds (stands_in f k h)
       stands_in (uses {v = v} {ok = ok} {e = e} l at f) k h =
           ahead no_other (λ a. W.uses (known ok e h.0) h.1 (stands_in f k (h.2 (v l))))
+      stands_in (F.uses_here {ok = ok} {e = e}) k h = W.uses (known ok e h.0) h.1 here
       stands_in (captures f) k h = W.captures h.0 h.1 (stands_in f k h.2)
-      stands_in (part v f rest) k h =
-          after (stands f (F.demanded rule rest k) h.0) (λ r. stands_in rest k (h.1 v r))
-      stands_in (literal v f rest) k h = literally (stands f Nothing h.0) (λ r. stands_in rest k (h.1 v r))
+      stands_in F.captures_here k h = W.captures h.0 h.1 here
+      stands_in (part v f rest) k h = after (stands f (F.demanded rule rest k) h.0) (λ q. stands_in rest k (h.1 v q))
+      stands_in (F.part_here f) k h = halts f h.0
+      stands_in (literal v f rest) k h = literally (stands f Nothing h.0) (λ q. stands_in rest k (h.1 v q))
+      stands_in (F.literal_here f) k h = literally (halts f h.0) (λ q. here)
       stands_in (apart v us n f rest) k h = apart_from (stands f Nothing h.0) (λ u. stands_in rest k (h.1 v us n u))
+      stands_in (F.apart_here f) k h = apart_from (halts f h.0) (λ u. here)
       stands_in (in_text closing l at f) k h =
           next brace (tok no_other (λ a. shape (tok a_text (λ b. stands_in f k (h closing a l at b)))))
-
-    -- so it is where a demand is missed
-    mutual
-      pub halts : {g : Goal} (f : F.Open rule g) → Wants g → AtTokens G (Unit {0}) (F.stops rule f) Nothing
-      halts (F.open_form {g = g} f) i = halts_in f (table g i)
-
-      halts_in : {h : Goal} {p : Production (Val h)} (f : F.Stopped rule h p) → Allows (λ x. Right h x) p
-          → AtTokens G (Unit {0}) (F.stopped rule f) Nothing
-      halts_in (F.never_here {why = why}) h = next (refusing why) here
-      halts_in (F.take_here {w = w} {m = m}) h = next (wanted w m) here
-      halts_in F.must_here h = test h.0 here
-      halts_in F.knows_here h = test_in h.0 here
-      halts_in (F.uses_here {ok = ok} {e = e}) h = W.uses (known ok e h.0) h.1 here
-      halts_in F.captures_here h = W.captures h.0 h.1 here
-      halts_in F.brace_here h = next brace here
-      halts_in (F.text_here closing) h = next brace (tok no_other (λ a. tok a_text (λ b. here)))
-      halts_in (F.part_here f) h = halts f h.0
-      halts_in (F.literal_here f) h = literally (halts f h.0) (λ r. here)
-      halts_in (F.apart_here f) h = apart_from (halts f h.0) (λ u. here)
-      halts_in (F.take {w = w} {m = m} l at f) h = next (wanted w m) (tok no_other (λ a. halts_in f (h l at a)))
-      halts_in (F.this l at f) h = next any (tok no_other (λ a. halts_in f (h l at a)))
-      halts_in (F.if_so {t = t} f) h = next (decided t) (halts_in f h.0)
-      halts_in (F.if_not {t = t} f) h = next (undecided t) (halts_in f h.1)
-      halts_in (F.choose {v = v} l at f) h = next any (ahead no_other (λ a. halts_in f (h (view v l))))
-      halts_in (F.here l at f) h = next any (ahead no_other (λ a. halts_in f (h at a)))
-      halts_in (F.must f) h = test h.0 (halts_in f h.1)
-      halts_in (F.knows f) h = test_in h.0 (halts_in f h.1)
-      halts_in (F.adds f) h = W.adds (halts_in f h)
-      halts_in (F.uses {v = v} {ok = ok} {e = e} l at f) h =
-          ahead no_other (λ a. W.uses (known ok e h.0) h.1 (halts_in f (h.2 (v l))))
-      halts_in (F.captures f) h = W.captures h.0 h.1 (halts_in f h.2)
-      halts_in (F.part v f rest) h = after (stands f (F.stopped rule rest) h.0) (λ r. halts_in rest (h.1 v r))
-      halts_in (F.literal v f rest) h = literally (stands f Nothing h.0) (λ r. halts_in rest (h.1 v r))
-      halts_in (F.apart v us n f rest) h = apart_from (stands f Nothing h.0) (λ u. halts_in rest (h.1 v us n u))
-      halts_in (F.in_text closing l at f) h =
-          next brace (tok no_other (λ a. shape (tok a_text (λ b. halts_in f (h closing a l at b)))))
+      stands_in F.brace_here k h = next brace here
+      stands_in (F.text_here closing) k h = next brace (tok no_other (λ a. tok a_text (λ b. here)))
 
     -- An error of an open form before which nothing is captured stands at an allowed position, where all tokens do.
     pub refused : {g : Goal} (f : F.Open rule g) (s t : Point) (e : Refusal) (m : Mode) → Wants g → s.captured ≡ []

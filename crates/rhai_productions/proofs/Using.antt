@@ -1,6 +1,6 @@
 -- What each production keeps of the names that are used holds of each form that fits. One induction over forms.
 use Rattle.std.proofs.Common.{◌≡◌, ◌∙◌, ℕ, Bool, true, false, ◌&&◌, List, [], ◌∷◌, ◌++◌, map, refl, sym, ap, ap₂, subst}
-use Rattle.std.proofs.Common.{append_assoc, append-nil, if◌then◌else◌}
+use Rattle.std.proofs.Common.{Some, append_assoc, append-nil, if◌then◌else◌}
 use Rattle.std.proofs.lemmas.List.{map-append}
 use Rattle.rhai_grammar.specs.Prelude.{Demands, Ended, Fine, Item, Lexeme, Met, Node, Nothing, Point, Position, Text}
 use Rattle.rhai_grammar.specs.Prelude.{Use, adding, capturing, code, excludes_use, is_variable, next_at, past, text}
@@ -138,14 +138,14 @@ module _ (Right : (g : Goal) → Val g → (first next : Lexeme) → (names : Li
         right = subst (Right j x a (op_at s)) (sym (append-nil names)) h;
         all = tt;
       }
-      keeps (take {h = j} {w = w} {m = c} {k = q} {x = x} l at f) a own names k s t m h =
+      keeps (take {h = j} {w = w} {m = c} {k = q} {r = Some x} l at f) a own names k s t m h =
           let u = past code s in
           let is = or_wrong (w (op_at s)) (c (op_at s)) (fine (F.wanted_or w c) (op_at s) m.0).1 in
           let on : Keeps j (λ y next us. Right j y a next us) (q l at) (op_at u) own names =
           subst (λ (i : Item). Keeps j (λ y next us. Right j y a next us) (q i.lexeme i.at) (op_at u) own names)
           m.1.0 (h is (next_at code s).at (op_at u)) in
           keeps f a own names k u t m.1.1 on
-      keeps (this {h = j} {k = q} {x = x} l at f) a own names k s t m h =
+      keeps (this {h = j} {k = q} {r = Some x} l at f) a own names k s t m h =
           let u = past code s in
           let on : Keeps j (λ y next us. Right j y a next us) (q l at) (op_at u) own names =
           subst (λ (i : Item). Keeps j (λ y next us. Right j y a next us) (q i.lexeme i.at) (op_at u) own names)

@@ -1,6 +1,6 @@
 -- Parts of open forms that worked rows have in common: the way to the demand that is missed. Each token is on the first
 -- line, at its column.
-use Rattle.std.specs.Prelude.{Bool, Option, Some, ℕ, false, if◌then◌else◌, true}
+use Rattle.std.specs.Prelude.{Bool, None, Option, Some, ℕ, false, if◌then◌else◌, true}
 use Rattle.rhai_lower.specs.Nodes as node
 use Rattle.rhai_lower.specs.declared.token.Token.TheVariants as token
 use Rattle.rhai_grammar.specs.Literals.{item_role}
@@ -11,8 +11,8 @@ use Rattle.rhai_grammar.specs.declared.role.ItemRole.TheVariants as item
 use Rattle.rhai_grammar.specs.Goals as goal
 use Rattle.rhai_grammar.specs.Goals.{BinaryOp, Expression, Goal, Operand, RightOperand, Val, Whole}
 use Rattle.rhai_grammar.specs.Strengths.{continues}
-use Rattle.rhai_grammar.specs.Forms.{Form, Open, Stopped, choose, form, here, if_not, if_so, must, must_here}
-use Rattle.rhai_grammar.specs.Forms.{open_form, part, part_here, this}
+use Rattle.rhai_grammar.specs.Forms.{Form, Open, choose, form, here, if_not, if_so, must, must_here}
+use Rattle.rhai_grammar.specs.Forms.{FilledIn, open_form, part, part_here, this}
 use Rattle.rhai_grammar.specs.Rules as P
 use Rattle.rhai_grammar.specs.Rules.{production}
 use Rattle.rhai_grammar.specs.Productions as S
@@ -23,8 +23,8 @@ use Rattle.rhai_productions.specs.WorkedRows.{Holds}
 use Rattle.rhai_productions.specs.WorkedTokens.{After}
 
 -- a part that is open
-abbrev pub open_part : {h g : Goal} {k : Val g → Production (Val h)} → Stopped production g (production g)
-    → Stopped production h (S.part g k)
+abbrev pub open_part : {h g : Goal} {k : Val g → Production (Val h)} → FilledIn production g (production g) None
+    → FilledIn production h (S.part g k) None
 open_part f = part_here (open_form f)
 
 -- ---- expressions
@@ -39,7 +39,7 @@ too_deep l column = open_form (here l (place 1 column) must_here)
 
 -- an expression of which the first operand is open, which begins with this token
 abbrev pub open_operand : {c : Context} {w : Live} (l : Lexeme) (column : ℕ)
-    → Stopped production (Operand (level_up c) w) (production (Operand (level_up c) w))
+    → FilledIn production (Operand (level_up c) w) (production (Operand (level_up c) w)) None
     → Open production (Expression c w)
 open_operand l column f = open_form (here l (place 1 column) (must (part_here (open_form f))))
 
@@ -52,14 +52,14 @@ open_run f rest = open_form (here (front f).0 (front f).1 (must (part _ f (part_
 
 -- the first of two ways, where a test holds
 abbrev pub holds_open : {h : Goal} {p : Production (Val h)} (q : Production (Val h)) (b : Bool) → Holds b
-    → Stopped production h p → Stopped production h (if b then p else q)
+    → FilledIn production h p None → FilledIn production h (if b then p else q) None
 holds_open q true e f = f
 holds_open q false e f = absurd e
 
 -- an operator that goes on with a run, and what follows it
 abbrev pub open_after : {c : Context} {w : Live} {at : Position} {parent : ℕ} {x : Node} {op : ℕ × Bool}
     (t : After c.filter (Some op)) → Holds (continues parent op.0 op.1)
-    → Stopped production (BinaryOp c w at parent x) (P.binary_on c w at parent x op)
+    → FilledIn production (BinaryOp c w at parent x) (P.binary_on c w at parent x op) None
     → Open production (BinaryOp c w at parent x)
 open_after {parent = parent} {op = op} t so rest =
     open_form (part _ (form (choose t.token (place 1 t.column) t.operator)) (
@@ -106,7 +106,7 @@ open_rest t so y r z =
 -- a name that is called with arguments in parentheses, which are open
 abbrev pub open_call : {c : Context} {w : Live} (name : Text) (column opening : ℕ)
     → Open production (goal.Arguments c w (place 1 column))
-    → Stopped production (Operand c w) (production (Operand c w))
+    → FilledIn production (Operand c w) (production (Operand c w)) None
 open_call name column opening f =
     choose (Name name) (place 1 column) (part _ (name_before name column (Sign token.LeftParen) opening) (
     part_here (open_form (if_not (if_so (part_here (open_form (choose (Sign token.LeftParen) (place 1 opening) (
@@ -124,7 +124,7 @@ open_argument f = open_form (if_not (if_not (must (part_here (open_form (part_he
 -- an array whose items are open
 abbrev pub open_array : {c : Context} {w : Live} (opening : ℕ)
     → Open production (goal.Elements (level_up c) w (place 1 opening) node.no_nodes)
-    → Stopped production (Operand c w) (production (Operand c w))
+    → FilledIn production (Operand c w) (production (Operand c w)) None
 open_array opening items =
     choose (Sign token.LeftBracket) (place 1 opening) (part_here (open_form (
     choose (Sign token.LeftBracket) (place 1 opening) (this (Sign token.LeftBracket) (place 1 opening) (
@@ -132,8 +132,8 @@ open_array opening items =
 
 -- where an item of an array begins
 abbrev item_there : {c : Context} {w : Live} {at : Position} {before : Nodes} (role : ItemRole) → IsItem role
-    → Stopped production (goal.Elements c w at before) (P.element_by c w at before item.Item)
-    → Stopped production (goal.Elements c w at before) (P.element_by c w at before role)
+    → FilledIn production (goal.Elements c w at before) (P.element_by c w at before item.Item) None
+    → FilledIn production (goal.Elements c w at before) (P.element_by c w at before role) None
 item_there item.Item so f = f
 item_there item.End so f = absurd so
 item_there item.Nothing so f = absurd so

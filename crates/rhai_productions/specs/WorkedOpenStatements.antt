@@ -1,6 +1,6 @@
 -- Parts of open forms of statements that worked rows have in common: the way to the demand that is missed. Each token
 -- is on the first line, at its column.
-use Rattle.std.specs.Prelude.{Bool, List, ℕ, [], false, not, true, ◌∷◌}
+use Rattle.std.specs.Prelude.{Bool, List, None, ℕ, [], false, not, true, ◌∷◌}
 use Rattle.rhai_lower.specs.Nodes as node
 use Rattle.rhai_lower.specs.declared.token.Token.TheVariants as token
 use Rattle.rhai_grammar.specs.Prelude.{Comment, Context, Ended, Lexeme, Live, Name, Node, Position, Sign, Text}
@@ -18,7 +18,7 @@ use Rattle.rhai_grammar.specs.declared.role.StatementStart.{StatementStart}
 use Rattle.rhai_grammar.specs.declared.role.StatementStart.TheVariants as first
 use Rattle.rhai_grammar.specs.Goals as goal
 use Rattle.rhai_grammar.specs.Goals.{Block, ExprStatement, Expression, Inside, Operand, Statement, Statements}
-use Rattle.rhai_grammar.specs.Forms.{Form, Open, Stopped, apart_here, choose, form, given, here, if_not, if_so}
+use Rattle.rhai_grammar.specs.Forms.{Form, Open, FilledIn, apart_here, choose, form, given, here, if_not, if_so}
 use Rattle.rhai_grammar.specs.Forms.{knows, knows_here, must, must_here, open_form, part, part_here, take, this}
 use Rattle.rhai_grammar.specs.Rules as P
 use Rattle.rhai_grammar.specs.Rules.{production}
@@ -36,8 +36,8 @@ open_begun (open_form (choose l at f)) = (l, at)
 -- where a statement of a list begins
 abbrev statement_there : {closing : Closing} {c : Context} {w : Live} {before : node.Statements} (role : StatementRole)
     → IsStatement role
-    → Stopped production (Statements closing c w before) (P.statements closing c w before stands.Statement)
-    → Stopped production (Statements closing c w before) (P.statements closing c w before role)
+    → FilledIn production (Statements closing c w before) (P.statements closing c w before stands.Statement) None
+    → FilledIn production (Statements closing c w before) (P.statements closing c w before role) None
 statement_there stands.Statement so f = f
 statement_there stands.Close so f = absurd so
 statement_there stands.Nothing so f = absurd so
@@ -54,8 +54,8 @@ open_first {closing} s so =
 abbrev pub open_next : {closing : Closing} {c : Context} {w : Live} {before : node.Statements}
     {f : node.Statement × Live} (s : Form production (Statement c w) f)
     → IsStatement (statement_role closing (begun s).0)
-    → Stopped production (Statements closing c w before) (P.after_one closing c f.1 (with_kept before f.0)
-    (ends_itself f.0))
+    → FilledIn production (Statements closing c w before) (P.after_one closing c f.1 (with_kept before f.0)
+    (ends_itself f.0)) None
     → Open production (Statements closing c w before)
 open_next {closing} s so rest =
     open_form (choose (begun s).0 (begun s).1 (
@@ -64,7 +64,7 @@ open_next {closing} s so rest =
 -- a semicolon, and the statements after it, which are open
 abbrev pub open_semicolon : {closing : Closing} {c : Context} {w v : Live} {before fs : node.Statements} (column : ℕ)
     → Open production (Statements closing c v fs)
-    → Stopped production (Statements closing c w before) (P.after_one closing c v fs false)
+    → FilledIn production (Statements closing c w before) (P.after_one closing c v fs false) None
 open_semicolon {closing = Brace} column rest =
     choose (Sign token.SemiColon) (place 1 column) (this (Sign token.SemiColon) (place 1 column) (part_here rest))
 open_semicolon {closing = EndMark} column rest =
@@ -73,15 +73,15 @@ open_semicolon {closing = EndMark} column rest =
 -- the statements after one that ends by itself, which are open
 abbrev pub open_followed : {closing : Closing} {c : Context} {w v : Live} {before fs : node.Statements}
     → Open production (Statements closing c v fs)
-    → Stopped production (Statements closing c w before) (P.after_one closing c v fs true)
+    → FilledIn production (Statements closing c w before) (P.after_one closing c v fs true) None
 open_followed rest = part_here rest
 
 -- ---- statements
 
 -- where an expression or assignment begins
 abbrev expression_there : {c : Context} {w : Live} (v : StatementStart) → IsExpression v
-    → Stopped production (Statement c w) (P.statement_by c w first.Expression)
-    → Stopped production (Statement c w) (P.statement_by c w v)
+    → FilledIn production (Statement c w) (P.statement_by c w first.Expression) None
+    → FilledIn production (Statement c w) (P.statement_by c w v) None
 expression_there first.Expression so f = f
 expression_there first.Empty so f = absurd so
 expression_there (first.Construct kind) so f = absurd so
@@ -148,7 +148,8 @@ open_return at f =
 
 -- where a block has statements
 abbrev inside_as : {c : Context} {w : Live} (b : Bool) → Holds (not b)
-    → Stopped production (Inside c w) (P.inside_by c w false) → Stopped production (Inside c w) (P.inside_by c w b)
+    → FilledIn production (Inside c w) (P.inside_by c w false) None
+    → FilledIn production (Inside c w) (P.inside_by c w b) None
 inside_as false so f = f
 inside_as true so f = absurd so
 
@@ -207,7 +208,7 @@ no_room = open_form knows_here
 -- a closure without parameters, where closures are operands, which is open
 abbrev pub open_bars : {c : Context} {w : Live} (at : ℕ) → Holds (may_be_closure c bars.Pair)
     → Open production (goal.Closure c w (place 1 at) bars.Pair)
-    → Stopped production (Operand c w) (production (Operand c w))
+    → FilledIn production (Operand c w) (production (Operand c w)) None
 open_bars {c} at so f =
     choose (Sign token.Or) (place 1 at) (open_part (choose (Sign token.Or) (place 1 at) (
     holds_open _ (may_be_closure c bars.Pair) so (this (Sign token.Or) (place 1 at) (part_here f)))))
@@ -215,7 +216,7 @@ open_bars {c} at so f =
 -- the same with parameters
 abbrev pub open_pipe : {c : Context} {w : Live} (at : ℕ) → Holds (may_be_closure c bars.List)
     → Open production (goal.Closure c w (place 1 at) bars.List)
-    → Stopped production (Operand c w) (production (Operand c w))
+    → FilledIn production (Operand c w) (production (Operand c w)) None
 open_pipe {c} at so f =
     choose (Sign token.Pipe) (place 1 at) (open_part (choose (Sign token.Pipe) (place 1 at) (
     holds_open _ (may_be_closure c bars.List) so (this (Sign token.Pipe) (place 1 at) (part_here f)))))

@@ -5,3 +5,4 @@ pub mod Readers
 pub mod Heights
 pub mod PlainPrimaries
 pub mod Parts
+pub mod Statements

@@ -295,22 +295,24 @@ Reads g view old result new = Gives view (result_of g (state_of old)) result (st
 abbrev pub Nests : {X : Type 0} (g : Goal) → (X → Val g) → Shared → Result X ParseError → Shared → Type 0
 Nests g view old result new = Gives view (nested (result_of g) (state_of old)) result (state_of new)
 
+-- a goal, by the engine, the frame and the settings that it is read under
+abbrev pub Reading : Type 0
+Reading = EngineValue → FrameValue → ParseSettings → Goal
+
 -- What a reader of this goal promises under this engine, frame and settings, if what it returns is seen by view. The
 -- references stay, no ended function is lost, and no more is left to read. The nesting stays in its bounds, where so
 -- many readers may stand on the reader's own level, and an orderly library stays so. And it reads what the goal says.
 pub record ReadsAs (engine : EngineValue) (frame : FrameValue) (settings : ParseSettings) (height : ℕ)
-    (goal : EngineValue → FrameValue → ParseSettings → Goal) {X : Type 0}
-    (view : X → Val (goal engine frame settings)) (old : Shared) (result : Result X ParseError) (new : Shared)
-    : Type 0 where
+    (goal : Reading) {X : Type 0} (view : X → Val (goal engine frame settings)) (old : Shared)
+    (result : Result X ParseError) (new : Shared) : Type 0 where
   pub goes_on : GoesOn old new
   pub stays : Stays engine frame settings height old new
   pub reads : Reads (goal engine frame settings) view old result new
 
 -- The same of a reader that counts.
 pub record NestsAs (engine : EngineValue) (frame : FrameValue) (settings : ParseSettings) (height : ℕ)
-    (goal : EngineValue → FrameValue → ParseSettings → Goal) {X : Type 0}
-    (view : X → Val (goal engine frame settings)) (old : Shared) (result : Result X ParseError) (new : Shared)
-    : Type 0 where
+    (goal : Reading) {X : Type 0} (view : X → Val (goal engine frame settings)) (old : Shared)
+    (result : Result X ParseError) (new : Shared) : Type 0 where
   pub goes_on : GoesOn old new
   pub stays : Stays engine frame settings height old new
   pub reads : Nests (goal engine frame settings) view old result new

@@ -1,16 +1,13 @@
 //! `LentReaders`: the readers that other readers call.
 
-ghost use Rattle.std.specs.Prelude.{◌≡◌, ◌≤◌, ℕ, ◌+◌, IfOk, false, true};
+ghost use Rattle.std.specs.Prelude.{◌≡◌, ℕ, ◌+◌, false};
 ghost use Rattle.rhai_lower.specs.View.{statement_view, view};
 ghost use Rattle.rhai_readers.specs.Readers.{NestsAs, construct, expression, inside, primary, state_of, statement};
-ghost use Rattle.rhai_readers.specs.Readers.{statements_of, with_live};
-ghost use Rattle.rhai_base.specs.Frames.{SameSurroundings};
+ghost use Rattle.rhai_readers.specs.Readers.{statements_of};
+ghost use Rattle.rhai_readers.specs.Statements.{NestsStatement};
 ghost use Rattle.rhai_grammar.specs.Beginnings.{beginning};
-ghost use Rattle.rhai_grammar.specs.Cursors.{left};
-ghost use Rattle.rhai_grammar.specs.Statements.{ends_itself};
 ghost use Rattle.rhai_readers.specs.PlainPrimaries.{is_plain};
 ghost use Rattle.rhai_reading.specs.Running.{need, next_item};
-ghost use Rattle.rhai_readers.specs.Heights.{function_height};
 ghost use Rattle.rhai_trees.specs.Chains.{chain_view};
 
 use crate::config::Config;
@@ -56,11 +53,7 @@ pub trait LentReaders {
         settings: ParseSettings,
     ) -> ParseResult<Stmt>
         requires covered { lent self.now (need (statement engine.now frame.old settings) (state_of shared.old)) }
-        ensures reads { NestsAs engine.now frame.old settings (2 + function_height engine.now settings) statement
-            (with_live statement_view frame.new) shared.old result shared.new }
-        ensures place { SameSurroundings frame.old frame.new }
-        ensures takes { IfOk result (λ s. ends_itself (statement_view s) ≡ true
-            → left (state_of shared.new).cursor.tokens + 1 ≤ left (state_of shared.old).cursor.tokens) };
+        ensures { NestsStatement engine.now frame.old frame.new settings shared.old result shared.new };
 
     /// Reads a construct of this kind after its first token, where the settings stand.
     fn parse_construct(

@@ -1,3 +1,3 @@
 pub mod Switches
 pub mod RareStatements
-pub mod Statements
+pub mod Readers

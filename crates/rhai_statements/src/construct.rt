@@ -5,9 +5,10 @@ pub(crate) mod control;
 ghost use Rattle.std.specs.Prelude.{◌≡◌, false};
 ghost use Rattle.rhai_lower.specs.View.{block_view, statement_view, view};
 ghost use Rattle.rhai_grammar.specs.declared.role.Construct.TheVariants.{Block, Do, For, Loop, Try, While};
-ghost use Rattle.rhai_readers.specs.Readers.{Covers, NestsAs, ReadsAs, braced, branch, conditional};
+ghost use Rattle.rhai_readers.specs.Readers.{braced, branch, conditional};
 ghost use Rattle.rhai_readers.specs.Readers.{construct, guard, iterated};
 ghost use Rattle.rhai_statements.specs.RareStatements.{is_block};
+ghost use Rattle.rhai_statements.specs.Readers.{Lends, Nests, Reads};
 
 use crate::construct::control::{catch_frame, end_guard, end_iterated, loop_frame};
 use crate::reader::Reader;
@@ -19,9 +20,8 @@ use rhai_leaves::cursor::peek;
 use rhai_leaves::due::pass_token;
 use rhai_lower::{Expr, Position, Stmt, StmtBlock};
 use rhai_readers::{LentReaders, Shared, nested};
-use rhai_trees::{
-    make_block_statement, make_do, make_for, make_if, make_try, make_while, no_block,
-};
+use rhai_trees::construct::{make_do, make_for, make_if, make_try, make_while};
+use rhai_trees::statement::{make_block_statement, no_block};
 
 impl<R: LentReaders> Reader<'_, R> {
     /// Reads a construct of this kind after its first token, where the settings stand, as a reader that counts.
@@ -34,10 +34,8 @@ impl<R: LentReaders> Reader<'_, R> {
         settings: ParseSettings,
         kind: Construct,
     ) -> ParseResult<Stmt>
-        requires lent { Covers (R.lent self.now.readers) (construct kind self.now.engine.now frame.now settings)
-            shared.old }
-        ensures { NestsAs self.now.engine.now frame.now settings 5 (construct kind) statement_view shared.old result
-            shared.new }
+        requires lent { Lends R.lent self.now (construct kind) frame.now settings shared.old }
+        ensures { Nests self.now frame.now settings 5 (construct kind) statement_view shared.old result shared.new }
     {
         match kind {
             Construct::Block => self.parse_block_statement(shared, frame, settings),
@@ -55,10 +53,8 @@ impl<R: LentReaders> Reader<'_, R> {
         frame: &Frame<'_>,
         settings: ParseSettings,
     ) -> ParseResult<Stmt>
-        requires lent { Covers (R.lent self.now.readers) (construct Block self.now.engine.now frame.now settings)
-            shared.old }
-        ensures { NestsAs self.now.engine.now frame.now settings 5 (construct Block) statement_view shared.old result
-            shared.new }
+        requires lent { Lends R.lent self.now (construct Block) frame.now settings shared.old }
+        ensures { Nests self.now frame.now settings 5 (construct Block) statement_view shared.old result shared.new }
     {
         let block = nested!(
             shared,
@@ -78,10 +74,8 @@ impl<R: LentReaders> Reader<'_, R> {
         kind: Construct,
     ) -> ParseResult<Stmt>
         requires keyword { is_block kind ≡ false }
-        requires lent { Covers (R.lent self.now.readers) (construct kind self.now.engine.now frame.now settings)
-            shared.old }
-        ensures { NestsAs self.now.engine.now frame.now settings 5 (construct kind) statement_view shared.old result
-            shared.new }
+        requires lent { Lends R.lent self.now (construct kind) frame.now settings shared.old }
+        ensures { Nests self.now frame.now settings 5 (construct kind) statement_view shared.old result shared.new }
     {
         nested!(
             shared,
@@ -100,10 +94,8 @@ impl<R: LentReaders> Reader<'_, R> {
         kind: Construct,
     ) -> ParseResult<Stmt>
         requires keyword { is_block kind ≡ false }
-        requires lent { Covers (R.lent self.now.readers) (construct kind self.now.engine.now frame.now settings)
-            shared.old }
-        ensures { ReadsAs self.now.engine.now frame.now settings 4 (construct kind) statement_view shared.old result
-            shared.new }
+        requires lent { Lends R.lent self.now (construct kind) frame.now settings shared.old }
+        ensures { Reads self.now frame.now settings 4 (construct kind) statement_view shared.old result shared.new }
     {
         match kind {
             Construct::Block => unreachable!(),
@@ -126,10 +118,8 @@ impl<R: LentReaders> Reader<'_, R> {
         frame: &Frame<'_>,
         settings: ParseSettings,
     ) -> ParseResult<Stmt>
-        requires lent { Covers (R.lent self.now.readers) (conditional self.now.engine.now frame.now settings)
-            shared.old }
-        ensures { ReadsAs self.now.engine.now frame.now settings 2 conditional statement_view shared.old result
-            shared.new }
+        requires lent { Lends R.lent self.now conditional frame.now settings shared.old }
+        ensures { Reads self.now frame.now settings 2 conditional statement_view shared.old result shared.new }
     {
         let guard = nested!(shared, self.parse_guard(shared, frame, settings))?;
         let body = nested!(shared, self.parse_braces(shared, frame, settings))?;
@@ -147,8 +137,8 @@ impl<R: LentReaders> Reader<'_, R> {
         frame: &Frame<'_>,
         settings: ParseSettings,
     ) -> ParseResult<StmtBlock>
-        requires lent { Covers (R.lent self.now.readers) (branch self.now.engine.now frame.now settings) shared.old }
-        ensures { ReadsAs self.now.engine.now frame.now settings 1 branch block_view shared.old result shared.new }
+        requires lent { Lends R.lent self.now branch frame.now settings shared.old }
+        ensures { Reads self.now frame.now settings 1 branch block_view shared.old result shared.new }
     {
         if !pass_token(shared.input, DueToken::Else)? {
             return Ok(no_block(self.engine.alloc()));
@@ -171,8 +161,8 @@ impl<R: LentReaders> Reader<'_, R> {
         frame: &Frame<'_>,
         settings: ParseSettings,
     ) -> ParseResult<Expr>
-        requires lent { Covers (R.lent self.now.readers) (guard self.now.engine.now frame.now settings) shared.old }
-        ensures { ReadsAs self.now.engine.now frame.now settings 1 guard view shared.old result shared.new }
+        requires lent { Lends R.lent self.now guard frame.now settings shared.old }
+        ensures { Reads self.now frame.now settings 1 guard view shared.old result shared.new }
     {
         guard_begins(self.engine.alloc(), shared.input)?;
         let guard = self
@@ -189,8 +179,8 @@ impl<R: LentReaders> Reader<'_, R> {
         frame: &Frame<'_>,
         settings: ParseSettings,
     ) -> ParseResult<Expr>
-        requires lent { Covers (R.lent self.now.readers) (iterated self.now.engine.now frame.now settings) shared.old }
-        ensures { ReadsAs self.now.engine.now frame.now settings 1 iterated view shared.old result shared.new }
+        requires lent { Lends R.lent self.now iterated frame.now settings shared.old }
+        ensures { Reads self.now frame.now settings 1 iterated view shared.old result shared.new }
     {
         guard_begins(self.engine.alloc(), shared.input)?;
         let over = self
@@ -208,8 +198,8 @@ impl<R: LentReaders> Reader<'_, R> {
         frame: &Frame<'_>,
         settings: ParseSettings,
     ) -> ParseResult<StmtBlock>
-        requires lent { Covers (R.lent self.now.readers) (braced self.now.engine.now frame.now settings) shared.old }
-        ensures { ReadsAs self.now.engine.now frame.now settings 0 braced block_view shared.old result shared.new }
+        requires lent { Lends R.lent self.now braced frame.now settings shared.old }
+        ensures { Reads self.now frame.now settings 0 braced block_view shared.old result shared.new }
     {
         let opening = begin_block(self.engine.alloc(), shared.input, "to begin this block")?;
         let deeper = settings.level_up_with_position(opening)?;
@@ -224,10 +214,8 @@ impl<R: LentReaders> Reader<'_, R> {
         frame: &Frame<'_>,
         settings: ParseSettings,
     ) -> ParseResult<Stmt>
-        requires lent { Covers (R.lent self.now.readers) (construct While self.now.engine.now frame.now settings)
-            shared.old }
-        ensures { ReadsAs self.now.engine.now frame.now settings 4 (construct While) statement_view shared.old result
-            shared.new }
+        requires lent { Lends R.lent self.now (construct While) frame.now settings shared.old }
+        ensures { Reads self.now frame.now settings 4 (construct While) statement_view shared.old result shared.new }
     {
         let guard = nested!(shared, self.parse_guard(shared, frame, settings))?;
         let body = nested!(
@@ -245,10 +233,8 @@ impl<R: LentReaders> Reader<'_, R> {
         frame: &Frame<'_>,
         settings: ParseSettings,
     ) -> ParseResult<Stmt>
-        requires lent { Covers (R.lent self.now.readers) (construct Loop self.now.engine.now frame.now settings)
-            shared.old }
-        ensures { ReadsAs self.now.engine.now frame.now settings 4 (construct Loop) statement_view shared.old result
-            shared.new }
+        requires lent { Lends R.lent self.now (construct Loop) frame.now settings shared.old }
+        ensures { Reads self.now frame.now settings 4 (construct Loop) statement_view shared.old result shared.new }
     {
         let body = nested!(
             shared,
@@ -270,10 +256,8 @@ impl<R: LentReaders> Reader<'_, R> {
         frame: &Frame<'_>,
         settings: ParseSettings,
     ) -> ParseResult<Stmt>
-        requires lent { Covers (R.lent self.now.readers) (construct Do self.now.engine.now frame.now settings)
-            shared.old }
-        ensures { ReadsAs self.now.engine.now frame.now settings 4 (construct Do) statement_view shared.old result
-            shared.new }
+        requires lent { Lends R.lent self.now (construct Do) frame.now settings shared.old }
+        ensures { Reads self.now frame.now settings 4 (construct Do) statement_view shared.old result shared.new }
     {
         let body = nested!(
             shared,
@@ -292,10 +276,8 @@ impl<R: LentReaders> Reader<'_, R> {
         frame: &Frame<'_>,
         settings: ParseSettings,
     ) -> ParseResult<Stmt>
-        requires lent { Covers (R.lent self.now.readers) (construct For self.now.engine.now frame.now settings)
-            shared.old }
-        ensures { ReadsAs self.now.engine.now frame.now settings 4 (construct For) statement_view shared.old result
-            shared.new }
+        requires lent { Lends R.lent self.now (construct For) frame.now settings shared.old }
+        ensures { Reads self.now frame.now settings 4 (construct For) statement_view shared.old result shared.new }
     {
         let names = next_loop_names(self.engine.alloc(), shared.input)?;
         let over = nested!(shared, self.parse_iterated(shared, frame, settings))?;
@@ -323,10 +305,8 @@ impl<R: LentReaders> Reader<'_, R> {
         frame: &Frame<'_>,
         settings: ParseSettings,
     ) -> ParseResult<Stmt>
-        requires lent { Covers (R.lent self.now.readers) (construct Try self.now.engine.now frame.now settings)
-            shared.old }
-        ensures { ReadsAs self.now.engine.now frame.now settings 4 (construct Try) statement_view shared.old result
-            shared.new }
+        requires lent { Lends R.lent self.now (construct Try) frame.now settings shared.old }
+        ensures { Reads self.now frame.now settings 4 (construct Try) statement_view shared.old result shared.new }
     {
         let body = nested!(shared, self.parse_braces(shared, frame, settings))?;
         let name = next_catch(self.engine.alloc(), shared.input)?;

@@ -3,22 +3,21 @@
 
 pub(crate) mod head;
 
-ghost use Rattle.std.specs.Prelude.{◌≡◌, ◌+◌, IfOk, false, true};
+ghost use Rattle.std.specs.Prelude.{◌≡◌, IfOk, false, true, []};
 ghost use Rattle.std.specs.Rc.{rc_str_bytes};
 ghost use Rattle.rhai_lower.specs.View.{block_view, statement_view};
 ghost use Rattle.rhai_grammar.specs.Contexts.{nothing_live};
 ghost use Rattle.rhai_grammar.specs.Delivered.{is_end};
 ghost use Rattle.rhai_grammar.specs.Functions.{ended_function, names_function};
 ghost use Rattle.rhai_grammar.specs.Keys.{is_closure, key_of};
-ghost use Rattle.rhai_grammar.specs.declared.role.StatementStart.TheVariants.{Comment};
 ghost use Rattle.rhai_base.specs.Comments.{comments_of};
-ghost use Rattle.rhai_readers.specs.Frames.{context_of, live_of};
-ghost use Rattle.rhai_readers.specs.Readers.{Covers, GoesOn, ReadsAs, ended_view, function, function_statement};
+ghost use Rattle.rhai_readers.specs.Readers.{GoesOn, ended_view, function};
 ghost use Rattle.rhai_readers.specs.Readers.{head_view, names_of, state_of, statement, with_live};
-ghost use Rattle.rhai_readers.specs.Parts.{AtToken, ReadsSuch, TakesPart};
-ghost use Rattle.rhai_reading.specs.Reading.{fn_on, function_end, private_on, statement_at};
+ghost use Rattle.rhai_readers.specs.Parts.{AtToken};
+ghost use Rattle.rhai_reading.specs.Reading.{fn_on, function_end, private_on};
 ghost use Rattle.rhai_reading.specs.Running.{Caller, Gives, next_item, exec};
 ghost use Rattle.rhai_readers.specs.Heights.{Ends, function_height};
+ghost use Rattle.rhai_statements.specs.Readers.{Lends, Reads, TakesFn, documented, ReadsFn, fn_alone, fn_statement};
 
 use crate::function::head::{next_comments, next_parameter_list};
 use crate::reader::Reader;
@@ -49,10 +48,8 @@ impl<R: LentReaders> Reader<'_, R> {
         settings: ParseSettings,
     ) -> ParseResult<Stmt>
         requires more { is_end (next_item (state_of shared.old)).lexeme ≡ false }
-        requires lent { Covers (R.lent self.now.readers) (statement self.now.engine.now frame.now settings) shared.old }
-        ensures { TakesPart self.now.engine.now frame.now settings (1 + function_height self.now.engine.now settings)
-            (statement_at (context_of self.now.engine.now frame.now settings) (live_of frame.now) settings.pos Comment)
-            (with_live statement_view frame.now) shared.old result shared.new }
+        requires lent { Lends R.lent self.now statement frame.now settings shared.old }
+        ensures { TakesFn self.now frame.now settings documented [] shared.old result shared.new }
     {
         let alloc = self.engine.alloc();
         let comment = take_text(alloc, shared.input)?;
@@ -79,10 +76,8 @@ impl<R: LentReaders> Reader<'_, R> {
         comments: &[(RcStr, Position)],
     ) -> ParseResult<Stmt>
         requires at { AtToken (state_of shared.old) }
-        requires lent { Covers (R.lent self.now.readers) (statement self.now.engine.now frame.now settings) shared.old }
-        ensures { TakesPart self.now.engine.now frame.now settings (1 + function_height self.now.engine.now settings)
-            (fn_on (context_of self.now.engine.now frame.now settings) (live_of frame.now) (comments_of comments.now)
-            settings.pos) (with_live statement_view frame.now) shared.old result shared.new }
+        requires lent { Lends R.lent self.now statement frame.now settings shared.old }
+        ensures { TakesFn self.now frame.now settings fn_on comments.now shared.old result shared.new }
     {
         skip(shared.input);
         nested!(
@@ -102,10 +97,8 @@ impl<R: LentReaders> Reader<'_, R> {
         comments: &[(RcStr, Position)],
     ) -> ParseResult<Stmt>
         requires at { AtToken (state_of shared.old) }
-        requires lent { Covers (R.lent self.now.readers) (statement self.now.engine.now frame.now settings) shared.old }
-        ensures { TakesPart self.now.engine.now frame.now settings (1 + function_height self.now.engine.now settings)
-            (private_on (context_of self.now.engine.now frame.now settings) (live_of frame.now)
-            (comments_of comments.now) settings.pos) (with_live statement_view frame.now) shared.old result shared.new }
+        requires lent { Lends R.lent self.now statement frame.now settings shared.old }
+        ensures { TakesFn self.now frame.now settings private_on comments.now shared.old result shared.new }
     {
         skip(shared.input);
         let (_, pos) = peek(shared.input)?;
@@ -130,12 +123,9 @@ impl<R: LentReaders> Reader<'_, R> {
         first: Position,
         private: bool,
     ) -> ParseResult<Stmt>
-        requires lent { Covers (R.lent self.now.readers)
-            (function_statement (comments_of comments.now) first private self.now.engine.now frame.now settings)
-            shared.old }
-        ensures { ReadsAs self.now.engine.now frame.now settings (function_height self.now.engine.now settings)
-            (function_statement (comments_of comments.now) first private) (with_live statement_view frame.now)
-            shared.old result shared.new }
+        requires lent { Lends R.lent self.now (fn_statement comments.now first private) frame.now settings shared.old }
+        ensures { Reads self.now frame.now settings (function_height self.now.engine.now settings) (fn_statement
+            comments.now first private) (with_live statement_view frame.now) shared.old result shared.new }
     {
         test_function(settings, first)?;
         let limit = self.engine.max_functions();
@@ -167,10 +157,8 @@ impl<R: LentReaders> Reader<'_, R> {
         private: bool,
     ) -> ParseResult<EndedFn>
         requires alone { frame.old.live ≡ nothing_live }
-        requires lent { Covers (R.lent self.now.readers)
-            (function (comments_of comments.now) private self.now.engine.now frame.old settings) shared.old }
-        ensures { ReadsSuch self.now.engine.now frame.old settings 0 (function (comments_of comments.now) private)
-            ended_view (λ e. is_closure (key_of e.0) ≡ false) shared.old result shared.new }
+        requires lent { Lends R.lent self.now (fn_alone comments.now private) frame.old settings shared.old }
+        ensures { ReadsFn self.now frame.old settings comments.now private shared.old result shared.new }
     {
         let head = next_head(self.engine.alloc(), shared.input)?;
         let names = next_parameter_list(self.engine.alloc(), shared, &head.1)?;

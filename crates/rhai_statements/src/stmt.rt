@@ -6,18 +6,18 @@ pub(crate) mod definitions;
 ghost use Rattle.std.specs.Prelude.{◌≡◌, ◌+◌, IfOk, false, true};
 ghost use Rattle.rhai_lower.specs.Nodes.{no_statements};
 ghost use Rattle.rhai_lower.specs.View.{statement_view, view};
-ghost use Rattle.rhai_readers.specs.Readers.{Covers, ReadsAs, definition, expr_statement, initializer};
+ghost use Rattle.rhai_readers.specs.Readers.{definition, expr_statement, initializer};
 ghost use Rattle.rhai_readers.specs.Readers.{statement};
 ghost use Rattle.rhai_readers.specs.Readers.{exported, imported};
 ghost use Rattle.rhai_grammar.specs.Contexts.{has_single_blocks};
 ghost use Rattle.rhai_grammar.specs.Statements.{ends_itself};
 ghost use Rattle.rhai_readers.specs.Frames.{context_of};
 ghost use Rattle.rhai_statements.specs.RareStatements.{Starts, is_jump, is_rare};
-ghost use Rattle.rhai_statements.specs.Statements.{ReadsStatement};
-ghost use Rattle.rhai_base.specs.Frames.{SameSurroundings};
+ghost use Rattle.rhai_readers.specs.Statements.{ReadsStatement};
 ghost use Rattle.rhai_readers.specs.Readers.{inside, jump, state_of, statements, statements_of, with_live};
 ghost use Rattle.rhai_trees.specs.Statements.{optional_view};
 ghost use Rattle.rhai_readers.specs.Heights.{function_height};
+ghost use Rattle.rhai_statements.specs.Readers.{Lends, Reads, Defines};
 
 use crate::reader::Reader;
 use crate::stmt::asks::{end_assignment, next_var_name, starts_expression};
@@ -32,9 +32,10 @@ use rhai_leaves::statements::{
 };
 use rhai_lower::{Expr, Position, Stmt};
 use rhai_readers::{LentReaders, Shared, nested};
-use rhai_trees::{
-    ends_itself, make_break, make_continue, make_definition, make_expression, make_import,
-    make_jump, push_statement,
+use rhai_trees::construct::ends_itself;
+use rhai_trees::statement::{
+    make_break, make_continue, make_definition, make_expression, make_import, make_jump,
+    push_statement,
 };
 
 impl<R: LentReaders> Reader<'_, R> {
@@ -48,12 +49,9 @@ impl<R: LentReaders> Reader<'_, R> {
         settings: ParseSettings,
         closing: Closing,
     ) -> ParseResult<Vec<Stmt>>
-        requires lent { Covers (R.lent self.now.readers)
-            (statements closing no_statements self.now.engine.now frame.old settings) shared.old }
-        ensures reads { ReadsAs self.now.engine.now frame.old settings
-            (2 + function_height self.now.engine.now settings) (statements closing no_statements)
-            (with_live statements_of frame.new) shared.old result shared.new }
-        ensures place { SameSurroundings frame.old frame.new }
+        requires lent { Lends R.lent self.now (statements closing no_statements) frame.old settings shared.old }
+        ensures { Defines self.now frame.old frame.new settings (2 + function_height self.now.engine.now settings)
+            (statements closing no_statements) (with_live statements_of frame.new) shared.old result shared.new }
     {
         let mut statements = Vec::new(self.engine.alloc());
         loop {
@@ -83,7 +81,7 @@ impl<R: LentReaders> Reader<'_, R> {
         frame: &mut Frame<'_>,
         settings: ParseSettings,
     ) -> ParseResult<Stmt>
-        requires lent { Covers (R.lent self.now.readers) (statement self.now.engine.now frame.old settings) shared.old }
+        requires lent { Lends R.lent self.now statement frame.old settings shared.old }
         ensures { ReadsStatement self.now.engine.now frame.old frame.new settings shared.old result shared.new }
     {
         let (token, pos) = peek(shared.input)?;
@@ -122,7 +120,7 @@ impl<R: LentReaders> Reader<'_, R> {
         pos: Position,
     ) -> ParseResult<Stmt>
         requires jump { Starts is_jump self.now.engine.now frame.now settings start pos (state_of shared.old) }
-        requires lent { Covers (R.lent self.now.readers) (statement self.now.engine.now frame.now settings) shared.old }
+        requires lent { Lends R.lent self.now statement frame.now settings shared.old }
         ensures { ReadsStatement self.now.engine.now frame.now frame.now settings shared.old result shared.new }
     {
         let settings = settings.at(pos);
@@ -165,7 +163,7 @@ impl<R: LentReaders> Reader<'_, R> {
         pos: Position,
     ) -> ParseResult<Stmt>
         requires keyword { Starts is_rare self.now.engine.now frame.old settings start pos (state_of shared.old) }
-        requires lent { Covers (R.lent self.now.readers) (statement self.now.engine.now frame.old settings) shared.old }
+        requires lent { Lends R.lent self.now statement frame.old settings shared.old }
         ensures { ReadsStatement self.now.engine.now frame.old frame.new settings shared.old result shared.new }
     {
         let settings = settings.at(pos);
@@ -210,10 +208,9 @@ impl<R: LentReaders> Reader<'_, R> {
         frame: &mut Frame<'_>,
         settings: ParseSettings,
     ) -> ParseResult<Stmt>
-        requires lent { Covers (R.lent self.now.readers) (imported self.now.engine.now frame.old settings) shared.old }
-        ensures reads { ReadsAs self.now.engine.now frame.old settings 1 imported (with_live statement_view frame.new)
+        requires lent { Lends R.lent self.now imported frame.old settings shared.old }
+        ensures { Defines self.now frame.old frame.new settings 1 imported (with_live statement_view frame.new)
             shared.old result shared.new }
-        ensures place { SameSurroundings frame.old frame.new }
     {
         let source = self
             .readers
@@ -232,10 +229,9 @@ impl<R: LentReaders> Reader<'_, R> {
         frame: &mut Frame<'_>,
         settings: ParseSettings,
     ) -> ParseResult<Stmt>
-        requires lent { Covers (R.lent self.now.readers) (exported self.now.engine.now frame.old settings) shared.old }
-        ensures reads { ReadsAs self.now.engine.now frame.old settings 0 exported (with_live statement_view frame.new)
+        requires lent { Lends R.lent self.now exported frame.old settings shared.old }
+        ensures { Defines self.now frame.old frame.new settings 0 exported (with_live statement_view frame.new)
             shared.old result shared.new }
-        ensures place { SameSurroundings frame.old frame.new }
     {
         if let Some(constant) = what_is_exported(shared.input)? {
             let deeper = settings.level_up()?;
@@ -261,11 +257,9 @@ impl<R: LentReaders> Reader<'_, R> {
         constant: bool,
         exported: bool,
     ) -> ParseResult<Stmt>
-        requires lent { Covers (R.lent self.now.readers)
-            (definition constant exported self.now.engine.now frame.old settings) shared.old }
-        ensures reads { ReadsAs self.now.engine.now frame.old settings 1 (definition constant exported)
-            (with_live statement_view frame.new) shared.old result shared.new }
-        ensures place { SameSurroundings frame.old frame.new }
+        requires lent { Lends R.lent self.now (definition constant exported) frame.old settings shared.old }
+        ensures { Defines self.now frame.old frame.new settings 1 (definition constant exported) (with_live
+            statement_view frame.new) shared.old result shared.new }
     {
         let (name, _) = next_var_name(self.engine, shared, frame, settings)?;
         let value = nested!(shared, self.parse_initializer(shared, frame, settings))?;
@@ -291,9 +285,8 @@ impl<R: LentReaders> Reader<'_, R> {
         frame: &Frame<'_>,
         settings: ParseSettings,
     ) -> ParseResult<Expr>
-        requires lent { Covers (R.lent self.now.readers) (initializer self.now.engine.now frame.now settings)
-            shared.old }
-        ensures { ReadsAs self.now.engine.now frame.now settings 0 initializer view shared.old result shared.new }
+        requires lent { Lends R.lent self.now initializer frame.now settings shared.old }
+        ensures { Reads self.now frame.now settings 0 initializer view shared.old result shared.new }
     {
         if !has_value(shared.input)? {
             return Ok(Expr::Unit(Position::NONE));
@@ -311,10 +304,8 @@ impl<R: LentReaders> Reader<'_, R> {
         frame: &Frame<'_>,
         settings: ParseSettings,
     ) -> ParseResult<Stmt>
-        requires lent { Covers (R.lent self.now.readers) (expr_statement self.now.engine.now frame.now settings)
-            shared.old }
-        ensures reads { ReadsAs self.now.engine.now frame.now settings 1 expr_statement statement_view shared.old result
-            shared.new }
+        requires lent { Lends R.lent self.now expr_statement frame.now settings shared.old }
+        ensures reads { Reads self.now frame.now settings 1 expr_statement statement_view shared.old result shared.new }
         ensures open { IfOk result (λ s. ends_itself (statement_view s) ≡ false) }
     {
         let target = self
@@ -339,8 +330,8 @@ impl<R: LentReaders> Reader<'_, R> {
         frame: &Frame<'_>,
         settings: ParseSettings,
     ) -> ParseResult<Vec<Stmt>>
-        requires lent { Covers (R.lent self.now.readers) (inside self.now.engine.now frame.now settings) shared.old }
-        ensures { ReadsAs self.now.engine.now frame.now settings 2 inside statements_of shared.old result shared.new }
+        requires lent { Lends R.lent self.now inside frame.now settings shared.old }
+        ensures { Reads self.now frame.now settings 2 inside statements_of shared.old result shared.new }
     {
         if settings.has_flag(ParseSettingFlags::DISALLOW_STATEMENTS_IN_BLOCKS) {
             return self.parse_single(shared, frame, settings);
@@ -361,8 +352,8 @@ impl<R: LentReaders> Reader<'_, R> {
         settings: ParseSettings,
     ) -> ParseResult<Vec<Stmt>>
         requires single { has_single_blocks (context_of self.now.engine.now frame.now settings) ≡ true }
-        requires lent { Covers (R.lent self.now.readers) (inside self.now.engine.now frame.now settings) shared.old }
-        ensures { ReadsAs self.now.engine.now frame.now settings 2 inside statements_of shared.old result shared.new }
+        requires lent { Lends R.lent self.now inside frame.now settings shared.old }
+        ensures { Reads self.now frame.now settings 2 inside statements_of shared.old result shared.new }
     {
         let statement = nested!(shared, self.parse_expr_stmt(shared, frame, settings))?;
         Ok(vec![in self.engine.alloc(); statement]?)
@@ -377,8 +368,8 @@ impl<R: LentReaders> Reader<'_, R> {
         frame: &Frame<'_>,
         settings: ParseSettings,
     ) -> ParseResult<Option<Expr>>
-        requires lent { Covers (R.lent self.now.readers) (jump self.now.engine.now frame.now settings) shared.old }
-        ensures { ReadsAs self.now.engine.now frame.now settings 0 jump optional_view shared.old result shared.new }
+        requires lent { Lends R.lent self.now jump frame.now settings shared.old }
+        ensures { Reads self.now frame.now settings 0 jump optional_view shared.old result shared.new }
     {
         let (token, _) = peek(shared.input)?;
         let looping = self.engine.allow_looping();

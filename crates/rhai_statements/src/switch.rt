@@ -2,18 +2,16 @@
 
 pub(crate) mod arms;
 
-ghost use Rattle.std.specs.Prelude.{◌+◌, ◌≤◌};
 ghost use Rattle.rhai_lower.specs.Nodes.{no_nodes};
 ghost use Rattle.rhai_lower.specs.View.{statement_view, view};
-ghost use Rattle.rhai_grammar.specs.Cursors.{left};
 ghost use Rattle.rhai_grammar.specs.Switches.{nothing_collected};
 ghost use Rattle.rhai_grammar.specs.declared.role.Construct.TheVariants.{Switch};
-ghost use Rattle.rhai_readers.specs.Parts.{ReadsSuch};
-ghost use Rattle.rhai_readers.specs.Readers.{Covers, ReadsAs, action, arm, arms, case, case_guard, cases};
+ghost use Rattle.rhai_readers.specs.Readers.{action, arm, arms, case, case_guard, cases};
 ghost use Rattle.rhai_readers.specs.Readers.{construct};
-ghost use Rattle.rhai_readers.specs.Readers.{default_arm, state_of};
+ghost use Rattle.rhai_readers.specs.Readers.{default_arm};
 ghost use Rattle.rhai_statements.specs.Switches.{CaseFrame, action_view, arm_view, cases_view};
 ghost use Rattle.rhai_cases.specs.Arms.{arms_view};
+ghost use Rattle.rhai_statements.specs.Readers.{Lends, Reads, Takes, cases_after};
 
 use crate::reader::Reader;
 use crate::switch::arms::{Action, Arm, as_case, end_arm, end_default, end_statement_action};
@@ -35,10 +33,8 @@ impl<R: LentReaders> Reader<'_, R> {
         frame: &Frame<'_>,
         settings: ParseSettings,
     ) -> ParseResult<Stmt>
-        requires lent { Covers (R.lent self.now.readers) (construct Switch self.now.engine.now frame.now settings)
-            shared.old }
-        ensures { ReadsAs self.now.engine.now frame.now settings 4 (construct Switch) statement_view shared.old result
-            shared.new }
+        requires lent { Lends R.lent self.now (construct Switch) frame.now settings shared.old }
+        ensures { Reads self.now frame.now settings 4 (construct Switch) statement_view shared.old result shared.new }
     {
         let item = self
             .readers
@@ -57,10 +53,8 @@ impl<R: LentReaders> Reader<'_, R> {
         frame: &Frame<'_>,
         settings: ParseSettings,
     ) -> ParseResult<Arms>
-        requires lent { Covers (R.lent self.now.readers) (arms nothing_collected self.now.engine.now frame.now settings)
-            shared.old }
-        ensures { ReadsAs self.now.engine.now frame.now settings 4 (arms nothing_collected) arms_view shared.old result
-            shared.new }
+        requires lent { Lends R.lent self.now (arms nothing_collected) frame.now settings shared.old }
+        ensures { Reads self.now frame.now settings 4 (arms nothing_collected) arms_view shared.old result shared.new }
     {
         let in_cases = frame.in_case(self.engine.alloc());
         let mut arms = new_arms(self.engine.alloc());
@@ -99,14 +93,11 @@ impl<R: LentReaders> Reader<'_, R> {
         frame: &Frame<'_>,
         in_cases: &Frame<'_>,
         settings: ParseSettings,
-        before: &Arms,
+        arms: &Arms,
     ) -> ParseResult<Arm>
         requires in_cases { CaseFrame frame.now in_cases.now }
-        requires lent { Covers (R.lent self.now.readers)
-            (arm (arms_view before.now) self.now.engine.now frame.now settings) shared.old }
-        ensures { ReadsSuch self.now.engine.now frame.now settings 3 (arm (arms_view before.now)) arm_view
-            (λ _. left (state_of shared.new).cursor.tokens + 1 ≤ left (state_of shared.old).cursor.tokens)
-            shared.old result shared.new }
+        requires lent { Lends R.lent self.now (arm (arms_view arms.now)) frame.now settings shared.old }
+        ensures { Takes self.now frame.now settings 3 (arm (arms_view arms.now)) arm_view shared.old result shared.new }
     {
         let cases = self.parse_cases(shared, frame, in_cases, settings)?;
         let guard = nested!(shared, self.parse_case_guard(shared, frame, settings))?;
@@ -117,7 +108,7 @@ impl<R: LentReaders> Reader<'_, R> {
             "after the cases of this arm",
         )?;
         let does = nested!(shared, self.parse_action(shared, frame, settings))?;
-        end_arm(self.engine.alloc(), shared, before, cases, guard, does)
+        end_arm(self.engine.alloc(), shared, arms, cases, guard, does)
     }
 
     /// Reads the default arm after its `_`, which is at `default`, up to the `}` of the `switch`.
@@ -129,10 +120,8 @@ impl<R: LentReaders> Reader<'_, R> {
         settings: ParseSettings,
         default: Position,
     ) -> ParseResult<Expr>
-        requires lent { Covers (R.lent self.now.readers) (default_arm default self.now.engine.now frame.now settings)
-            shared.old }
-        ensures { ReadsAs self.now.engine.now frame.now settings 3 (default_arm default) view shared.old result
-            shared.new }
+        requires lent { Lends R.lent self.now (default_arm default) frame.now settings shared.old }
+        ensures { Reads self.now frame.now settings 3 (default_arm default) view shared.old result shared.new }
     {
         default_unguarded(shared.input)?;
         match_token(
@@ -155,10 +144,8 @@ impl<R: LentReaders> Reader<'_, R> {
         settings: ParseSettings,
     ) -> ParseResult<SmallVec<Expr, 1>>
         requires in_cases { CaseFrame frame.now in_cases.now }
-        requires lent { Covers (R.lent self.now.readers) (cases no_nodes self.now.engine.now frame.now settings)
-            shared.old }
-        ensures { ReadsAs self.now.engine.now frame.now settings 2 (cases no_nodes) cases_view shared.old result
-            shared.new }
+        requires lent { Lends R.lent self.now (cases no_nodes) frame.now settings shared.old }
+        ensures { Reads self.now frame.now settings 2 (cases no_nodes) cases_view shared.old result shared.new }
     {
         let case = nested!(shared, self.parse_case(shared, frame, in_cases, settings))?;
         let cases = SmallVec::from_buf(self.engine.alloc(), [case]);
@@ -183,10 +170,8 @@ impl<R: LentReaders> Reader<'_, R> {
         before: SmallVec<Expr, 1>,
     ) -> ParseResult<SmallVec<Expr, 1>>
         requires in_cases { CaseFrame frame.now in_cases.now }
-        requires lent { Covers (R.lent self.now.readers)
-            (cases (cases_view before) self.now.engine.now frame.now settings) shared.old }
-        ensures { ReadsAs self.now.engine.now frame.now settings 2 (cases (cases_view before)) cases_view shared.old
-            result shared.new }
+        requires lent { Lends R.lent self.now (cases_after before) frame.now settings shared.old }
+        ensures { Reads self.now frame.now settings 2 (cases_after before) cases_view shared.old result shared.new }
     {
         let mut cases = before;
         loop {
@@ -209,8 +194,8 @@ impl<R: LentReaders> Reader<'_, R> {
         settings: ParseSettings,
     ) -> ParseResult<Expr>
         requires in_cases { CaseFrame frame.now in_cases.now }
-        requires lent { Covers (R.lent self.now.readers) (case self.now.engine.now frame.now settings) shared.old }
-        ensures { ReadsAs self.now.engine.now frame.now settings 1 case view shared.old result shared.new }
+        requires lent { Lends R.lent self.now case frame.now settings shared.old }
+        ensures { Reads self.now frame.now settings 1 case view shared.old result shared.new }
     {
         let case = self
             .readers
@@ -226,9 +211,8 @@ impl<R: LentReaders> Reader<'_, R> {
         frame: &Frame<'_>,
         settings: ParseSettings,
     ) -> ParseResult<Expr>
-        requires lent { Covers (R.lent self.now.readers) (case_guard self.now.engine.now frame.now settings)
-            shared.old }
-        ensures { ReadsAs self.now.engine.now frame.now settings 2 case_guard view shared.old result shared.new }
+        requires lent { Lends R.lent self.now case_guard frame.now settings shared.old }
+        ensures { Reads self.now frame.now settings 2 case_guard view shared.old result shared.new }
     {
         if !pass_token(shared.input, DueToken::If)? {
             return Ok(no_guard());
@@ -246,8 +230,8 @@ impl<R: LentReaders> Reader<'_, R> {
         frame: &Frame<'_>,
         settings: ParseSettings,
     ) -> ParseResult<Action>
-        requires lent { Covers (R.lent self.now.readers) (action self.now.engine.now frame.now settings) shared.old }
-        ensures { ReadsAs self.now.engine.now frame.now settings 2 action action_view shared.old result shared.new }
+        requires lent { Lends R.lent self.now action frame.now settings shared.old }
+        ensures { Reads self.now frame.now settings 2 action action_view shared.old result shared.new }
     {
         if settings.has_flag(ParseSettingFlags::DISALLOW_STATEMENTS_IN_BLOCKS) {
             let expr = self

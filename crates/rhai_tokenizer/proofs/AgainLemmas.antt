@@ -13,7 +13,8 @@ use Rattle.rhai_tokenizer.specs.Symbols.{symbols, is_longest}
 use Rattle.rhai_tokenizer.specs.Strings.{Quote, Tick, Apostrophe, string_letters}
 use Rattle.rhai_tokenizer.specs.Pieces.{Piece, Blank, LineComment, BlockComment, Word, Integer, Radix, Symbol, NotIn, Quoted, Character, NoCharacter, Raw, Ticked, Stray, is_later, is_quote, hashes, raw_letters, begins_in, is_part, begins_piece, letters, Fits}
 use Rattle.rhai_tokenizer.specs.Runs.{run, run_from}
-use Rattle.rhai_tokenizer.specs.Cutting.{table_texts, piece_at, piece_of, first_class, number_at, stray_at, sign_at}
+use Rattle.rhai_tokenizer.specs.Cutting.{piece_at, piece_of, first_class, number_at, stray_at, sign_at}
+use Rattle.rhai_tokenizer.specs.Tables.{table_texts}
 use Rattle.rhai_tokenizer.specs.CuttingStrings.{ending_after}
 use Rattle.rhai_tokenizer.proofs.ByteLemmas.{same_is, at_member, first_of-only, run_again, all_within, begins_one, begins_within}
 use Rattle.rhai_tokenizer.proofs.StringLemmas.{string_again}

@@ -15,7 +15,8 @@ use Rattle.rhai_tokenizer.specs.declared.table.Fixed.TheVariants as fixed
 use Rattle.rhai_tokenizer.specs.declared.table.Meaning.{Meaning}
 use Rattle.rhai_tokenizer.specs.declared.table.Meaning.TheVariants.{Plain, Held, Refused}
 use Rattle.rhai_tokenizer.specs.Bytes.{begins, begins_with}
-use Rattle.rhai_tokenizer.specs.Cutting.{cut_entry, entry_cut, entry_of, first_class, goes_on, is_closer, is_second, lead_in, lead_of, lead_table, plain_lead, symbol_lead, symbol_table}
+use Rattle.rhai_tokenizer.specs.Cutting.{cut_entry, entry_cut, first_class, goes_on, is_closer, is_second, lead_in, lead_of, lead_table, plain_lead, symbol_lead}
+use Rattle.rhai_tokenizer.specs.Tables.{entry_of, symbol_table}
 use Rattle.rhai_tokenizer.specs.CuttingMeanings.{IsAlone, IsPair}
 use Rattle.rhai_tokenizer.specs.Meanings.{brace_of_symbol}
 use Rattle.rhai_tokenizer.proofs.ByteLemmas.{same_is}

@@ -8,7 +8,7 @@ use Rattle.rhai_lower.specs.Texts.{Text, same_text}
 use Rattle.rhai_tokenizer.specs.declared.table.Meaning.{Meaning}
 use Rattle.rhai_tokenizer.specs.declared.table.TheConstants.{SYMBOL_STARTS}
 use Rattle.rhai_tokenizer.specs.Bytes.{begins, begins_with}
-use Rattle.rhai_tokenizer.specs.Cutting.{Table, entry_of, lookup, symbol_table, word_table}
+use Rattle.rhai_tokenizer.specs.Tables.{Table, entry_of, lookup, symbol_table, word_table}
 
 -- the entry begins with another byte
 abbrev pub is_off : ℕ → (Text × Meaning) → Bool

@@ -28,7 +28,7 @@ use Rattle.rhai_tokenizer.specs.declared.table.Meaning.{Meaning}
 use Rattle.rhai_tokenizer.specs.declared.table.Meaning.TheVariants.{Plain}
 use Rattle.rhai_tokenizer.specs.declared.tokens.Tokens.{Tokens}
 use Rattle.rhai_tokenizer.specs.Bytes.{begins, blanks, is_empty}
-use Rattle.rhai_tokenizer.specs.Fixed.{token_of}
+use Rattle.rhai_tokenizer.specs.Tables.{token_of}
 use Rattle.rhai_tokenizer.specs.Cutting.{first_class, next_at, piece_at, number_cut, sign_cut}
 use Rattle.rhai_tokenizer.specs.CuttingMeanings.{IsAlone, IsPair, cut_brace, cut_symbol, cut_token, is_sign, meaning_of}
 use Rattle.rhai_tokenizer.specs.Meanings.{Found, brace_of_symbol, braces_after, opens_after, operand_then, text_after}

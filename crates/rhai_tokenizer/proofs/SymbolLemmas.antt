@@ -9,8 +9,8 @@ use Rattle.rhai_tokenizer.specs.declared.table.Fixed.{Fixed}
 use Rattle.rhai_tokenizer.specs.declared.table.Meaning.{Meaning}
 use Rattle.rhai_tokenizer.specs.declared.table.Meaning.TheVariants.{Plain}
 use Rattle.rhai_tokenizer.specs.Bytes.{begins_with}
-use Rattle.rhai_tokenizer.specs.Cutting.{Table, cut_entry, entry_cut, entry_of, goes_on, sign_cut, symbol_table}
-use Rattle.rhai_tokenizer.specs.Cutting.{lookup}
+use Rattle.rhai_tokenizer.specs.Cutting.{cut_entry, entry_cut, goes_on, sign_cut}
+use Rattle.rhai_tokenizer.specs.Tables.{Table, entry_of, lookup, symbol_table}
 use Rattle.rhai_tokenizer.specs.CuttingMeanings.{meaning_of}
 use Rattle.rhai_tokenizer.specs.Symbols.{signs, reserved_symbols, refused_symbols, symbol_lexeme}
 use Rattle.rhai_tokenizer.proofs.WordLemmas.{Right, found_right}

@@ -13,7 +13,8 @@ use Rattle.rhai_tokenizer.specs.declared.class.First.TheVariants as first
 use Rattle.rhai_tokenizer.specs.Bytes.{begins, begins_decimal, begins_raw}
 use Rattle.rhai_tokenizer.specs.Symbols.{symbols, signs, reserved_symbols, refused_symbols}
 use Rattle.rhai_tokenizer.specs.Pieces.{begins_in}
-use Rattle.rhai_tokenizer.specs.Cutting.{first_class, symbol_table, table_texts}
+use Rattle.rhai_tokenizer.specs.Cutting.{first_class}
+use Rattle.rhai_tokenizer.specs.Tables.{symbol_table, table_texts}
 use Rattle.rhai_tokenizer.proofs.ByteLemmas.{at_member, begins_like, falling, same_is}
 use Rattle.rhai_tokenizer.proofs.RunLemmas.{Again, Some}
 

@@ -10,7 +10,7 @@ use Rattle.rhai_lower.specs.Tokens.{literal_of}
 use Rattle.rhai_lower.specs.declared.token.Token.{Token}
 use Rattle.rhai_tokenizer.specs.declared.table.Meaning.{Meaning}
 use Rattle.rhai_tokenizer.specs.declared.table.TheConstants.{WORD_PLACES}
-use Rattle.rhai_tokenizer.specs.Cutting.{Table, lookup, word_key, word_table}
+use Rattle.rhai_tokenizer.specs.Tables.{Table, lookup, word_key, word_table}
 use Rattle.rhai_tokenizer.specs.CuttingMeanings.{meaning_of}
 use Rattle.rhai_tokenizer.specs.Symbols.{keywords, reserved_words, find, improper, word_lexeme}
 use Rattle.rhai_tokenizer.proofs.ByteLemmas.{same_is, same_refl, at_member}

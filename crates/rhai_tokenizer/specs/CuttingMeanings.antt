@@ -20,7 +20,7 @@ use Rattle.rhai_tokenizer.specs.declared.table.Meaning.{Meaning}
 use Rattle.rhai_tokenizer.specs.declared.table.Meaning.TheVariants.{Plain, Held, Refused}
 use Rattle.rhai_tokenizer.specs.Bytes.{base_of, begins_with, is_continuation}
 use Rattle.rhai_tokenizer.specs.Cutting.{first_class, sign_cut}
-use Rattle.rhai_tokenizer.specs.Fixed.{token_of}
+use Rattle.rhai_tokenizer.specs.Tables.{token_of}
 use Rattle.rhai_tokenizer.specs.Meanings.{brace_of_symbol, integer_or, without_return}
 use Rattle.rhai_tokenizer.specs.Numbers.{digits_of, integer_value, radix_value}
 use Rattle.rhai_tokenizer.specs.Symbols.{improper, word_lexeme}

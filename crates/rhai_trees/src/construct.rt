@@ -1,6 +1,6 @@
-//! The nodes of `if`, loops and `try`.
+//! The nodes of `if`, loops and `try`, and which statements end by themselves.
 
-ghost use Rattle.std.specs.Prelude.{◌≡◌, IfErr, IfOk, None, OnOk, Some, false, option_map};
+ghost use Rattle.std.specs.Prelude.{◌≡◌, IfErr, IfOk, None, OnOk, Some, false, option_map, true};
 ghost use Rattle.std.specs.Rc.{rc_str_bytes};
 ghost use Rattle.rhai_lower.specs.Nodes.{do_statement, for_statement, if_statement, start_of, try_catch};
 ghost use Rattle.rhai_lower.specs.Nodes.{while_statement};
@@ -8,6 +8,7 @@ ghost use Rattle.rhai_lower.specs.View.{block_view, statement_view, view};
 ghost use Rattle.rhai_grammar.specs.Causes.{MemoryIsNowhere, MismatchedType, Says, cause_of, is_for_memory, refusal};
 ghost use Rattle.rhai_grammar.specs.Causes.{refusal_of};
 ghost use Rattle.rhai_grammar.specs.Constructs.{guard_fault, iterated_fault};
+ghost use Rattle.rhai_grammar.specs.Statements.{ends_itself};
 ghost use Rattle.rhai_grammar.specs.Trees.{catch_node};
 
 use rhai_lower::{
@@ -131,4 +132,21 @@ pub fn make_try(
         branch: handler,
     };
     Ok(Stmt::TryCatch(Box::new(alloc, parts)?, pos))
+}
+
+/// Whether a statement ends by itself, so that no `;` has to follow it: an empty one, or a construct other than `do`,
+/// which ends with its guard. Does not allocate.
+pub fn ends_itself(statement: &Stmt) -> bool
+    ensures { result ≡ ends_itself (statement_view statement.now) }
+{
+    match statement {
+        Stmt::Noop(_)
+        | Stmt::If(_, _)
+        | Stmt::Switch { .. }
+        | Stmt::While(_, _)
+        | Stmt::For(_, _)
+        | Stmt::Block(_)
+        | Stmt::TryCatch(_, _) => true,
+        _ => false,
+    }
 }

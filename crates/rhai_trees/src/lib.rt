@@ -16,16 +16,10 @@ pub mod strings;
 pub mod target;
 
 pub use chain::{indexed_operand, test_index, test_links};
-pub use construct::{make_do, make_for, make_if, make_try, make_while};
 pub use guard::{test_guard, test_iterated};
 pub use kind::{index_fault, is_constant, not_boolean, not_iterable};
 pub use link::{Chain, Link, LinkKind};
 pub use operator::make_binary;
 pub use sign::make_unary;
-pub use statement::{
-    ends_itself, is_empty, make_assignment, make_block, make_block_statement, make_block_value,
-    make_break, make_continue, make_definition, make_export, make_expression, make_import,
-    make_jump, make_statement_value, no_block, push_statement,
-};
 pub use strings::{push_segment, push_text};
 pub use target::{slot_of, test_target};

@@ -1,5 +1,5 @@
-//! Statements: lists, nodes, and which end by themselves. The nodes are those of definitions, imports, exports,
-//! assignments, blocks and jumps. Statements as operands are here too.
+//! Statements: lists and nodes. The nodes are those of definitions, imports, exports, assignments, blocks and jumps.
+//! Statements as operands are here too.
 
 ghost use Rattle.std.specs.Prelude.{◌≡◌, [], IfOk, OnOk, false, option_map, true, unwrap_or};
 ghost use Rattle.std.specs.Int.NonZero.{non_zero_usize_get};
@@ -8,7 +8,6 @@ ghost use Rattle.rhai_lower.specs.Lexemes.{lexeme};
 ghost use Rattle.rhai_lower.specs.Nodes.{absent, assignment, block_statement, block_value, braces, break_loop};
 ghost use Rattle.rhai_lower.specs.Nodes.{expression, made_block, return_statement, var_statement};
 ghost use Rattle.rhai_lower.specs.View.{block_view, statement_view, statement_views, view};
-ghost use Rattle.rhai_grammar.specs.Statements.{ends_itself};
 ghost use Rattle.rhai_grammar.specs.Targets.{update_of};
 ghost use Rattle.rhai_grammar.specs.Trees.{export_tree, import_tree, with_kept};
 ghost use Rattle.rhai_grammar.specs.Trees as tree;
@@ -18,23 +17,6 @@ use rhai_lower::{BinaryExpr, Expr, Position, Stmt, StmtBlock, Token};
 use std::alloc::{AllocError, Global};
 use std::num::NonZeroUsize;
 use std::rc::RcStr;
-
-/// Whether a statement ends by itself, so that no `;` has to follow it: an empty one, or a construct other than `do`,
-/// which ends with its guard. Does not allocate.
-pub fn ends_itself(statement: &Stmt) -> bool
-    ensures { result ≡ ends_itself (statement_view statement.now) }
-{
-    match statement {
-        Stmt::Noop(_)
-        | Stmt::If(_, _)
-        | Stmt::Switch { .. }
-        | Stmt::While(_, _)
-        | Stmt::For(_, _)
-        | Stmt::Block(_)
-        | Stmt::TryCatch(_, _) => true,
-        _ => false,
-    }
-}
 
 /// Whether a statement is empty.
 pub fn is_empty(statement: &Stmt) -> bool

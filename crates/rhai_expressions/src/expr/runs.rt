@@ -11,8 +11,9 @@ ghost use Rattle.rhai_grammar.specs.Operators.{operator_result};
 ghost use Rattle.rhai_base.specs.Settings.{settings_of};
 ghost use Rattle.rhai_reading.specs.Reading.{NextOperator};
 ghost use Rattle.rhai_readers.specs.Parts.{AtToken};
-ghost use Rattle.rhai_readers.specs.Readers.{Covers, ReadsAs, binary_op, state_of};
+ghost use Rattle.rhai_readers.specs.Readers.{Covers, state_of};
 ghost use Rattle.rhai_expressions.specs.Runs.{Follows, ReadsSide, in_run};
+ghost use Rattle.rhai_expressions.specs.Readers.{Lends, Reads, operators};
 
 use crate::expr::asks::next_operator;
 use crate::reader::Reader;
@@ -186,11 +187,8 @@ impl<R: LentReaders> Reader<'_, R> {
         parent: u8,
         lhs: Chain,
     ) -> ParseResult<Chain>
-        requires lent { Covers (R.lent self.now.readers)
-            (binary_op (position_of (chain_view lhs)) parent (chain_view lhs) self.now.engine.now frame.now settings)
-            shared.old }
-        ensures { ReadsAs self.now.engine.now frame.now settings 5
-            (binary_op (position_of (chain_view lhs)) parent (chain_view lhs)) chain_view shared.old result shared.new }
+        requires lent { Lends R.lent self.now (operators parent lhs) frame.now settings shared.old }
+        ensures { Reads self.now frame.now settings 5 (operators parent lhs) chain_view shared.old result shared.new }
     {
         let next = next_operator(self.engine.alloc(), frame.filter(), shared)?;
         if in_run(next, parent).is_none() {
@@ -217,11 +215,8 @@ impl<R: LentReaders> Reader<'_, R> {
         next: Option<Operator>,
     ) -> ParseResult<Chain>
         requires next { Follows frame.now.filter next (state_of shared.old) }
-        requires lent { Covers (R.lent self.now.readers)
-            (binary_op (position_of (chain_view lhs)) parent (chain_view lhs) self.now.engine.now frame.now settings)
-            shared.old }
-        ensures { ReadsAs self.now.engine.now frame.now settings 5
-            (binary_op (position_of (chain_view lhs)) parent (chain_view lhs)) chain_view shared.old result shared.new }
+        requires lent { Lends R.lent self.now (operators parent lhs) frame.now settings shared.old }
+        ensures { Reads self.now frame.now settings 5 (operators parent lhs) chain_view shared.old result shared.new }
     {
         let alloc = self.engine.alloc();
         let mut next = next;

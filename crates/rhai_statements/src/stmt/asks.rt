@@ -22,7 +22,8 @@ use rhai_leaves::statements::parse_var_name;
 use rhai_leaves::tokens::what_begins;
 use rhai_lower::{Expr, Position, Stmt, Token};
 use rhai_readers::{Config, Shared};
-use rhai_trees::{make_assignment, slot_of, test_target};
+use rhai_trees::statement::make_assignment;
+use rhai_trees::{slot_of, test_target};
 use std::alloc::Global;
 use std::rc::RcStr;
 

@@ -11,7 +11,7 @@ ghost use Rattle.rhai_base.specs.Frames.{SameSurroundings};
 
 use rhai_base::Frame;
 use rhai_lower::{Position, Stmt};
-use rhai_trees::make_export;
+use rhai_trees::statement::make_export;
 use std::alloc::{AllocError, Global};
 use std::num::NonZeroUsize;
 use std::rc::RcStr;

@@ -19,7 +19,7 @@ use rhai_grammar::ParseResult;
 use rhai_leaves::arms::{arm_continues, as_literal, default_ends};
 use rhai_lower::{Expr, Position, Stmt};
 use rhai_readers::Shared;
-use rhai_trees::make_statement_value;
+use rhai_trees::statement::make_statement_value;
 use smallvec::SmallVec;
 use std::alloc::Global;
 

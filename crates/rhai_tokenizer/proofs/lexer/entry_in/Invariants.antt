@@ -1,5 +1,6 @@
 use Rattle.std.proofs.Common.{◌≡◌, length, map}
-use Rattle.rhai_tokenizer.specs.Cutting.{cut_entry, entry_of}
+use Rattle.rhai_tokenizer.specs.Cutting.{cut_entry}
+use Rattle.rhai_tokenizer.specs.Tables.{entry_of}
 use Rattle.rhai_tokenizer.proofs.lexer.entry_in.Given as goal
 
 abbrev pub invariant-loop-table : goal.invariant-loop-table

@@ -1,6 +1,6 @@
 use Rattle.std.proofs.Common.{◌∙◌, Some, ap, sym}
 use Rattle.rhai_lower.specs.Lexemes.{Reserved, lexeme}
-use Rattle.rhai_tokenizer.specs.Cutting.{lookup, word_table}
+use Rattle.rhai_tokenizer.specs.Tables.{lookup, word_table}
 use Rattle.rhai_tokenizer.specs.declared.table.Meaning.TheVariants.{Held, Plain}
 use Rattle.rhai_tokenizer.proofs.WordLemmas.{word_right}
 use Rattle.rhai_tokenizer.proofs.meaning.usual_word.Goals as goal

@@ -1,7 +1,7 @@
 use Rattle.std.proofs.Common.{◌≡◌, ◌∙◌, ◌≤◌, ap, arith, get_or, length, sym}
 use Rattle.std.proofs.lemmas.List.{length-map}
 use Rattle.rhai_tokenizer.specs.declared.table.TheConstants.{WORD_PLACES}
-use Rattle.rhai_tokenizer.specs.Cutting.{word_table}
+use Rattle.rhai_tokenizer.specs.Tables.{word_table}
 use Rattle.rhai_tokenizer.proofs.WordLemmas.{key_part, place_within}
 use Rattle.rhai_tokenizer.proofs.meaning.words_like.Goals as goal
 

@@ -14,7 +14,7 @@ returns g c = record {
   such = grind arith;
   stays = grind arith;
   reads =
-      let call = guarded (arm (arms_view c.args.before.now) c.args.self.now.engine.now c.args.frame.now c.args.settings) (state_of c.args.shared.now) in
+      let call = guarded (arm (arms_view c.args.arms.now) c.args.self.now.engine.now c.args.frame.now c.args.settings) (state_of c.args.shared.now) in
       gives_so arm_view c.end_arm.result (state_of c.end_arm.new.shared) (grind (arith, rule.parse_arm)) (c.end_arm.ensures.gives call (grind (arith, rule.parse_arm)));
 }
 

@@ -3,7 +3,7 @@ use Rattle.std.proofs.Common.{◌≡◌, drop}
 use Rattle.rhai_lower.specs.View.{shared_of}
 use Rattle.rhai_json.specs.Trees.{shared_value}
 use Rattle.rhai_json.specs.Fields.{items}
-use Rattle.rhai_json.proofs.stmt.put_share.Given as goal
+use Rattle.rhai_json.proofs.printer.stmt.put_share.Given as goal
 
 abbrev pub invariant-loop-variable : goal.invariant-loop-variable
 invariant-loop-variable l =

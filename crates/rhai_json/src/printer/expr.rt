@@ -1,22 +1,26 @@
-//! The fields of an expression that hold no further node.
+//! What is written of an expression: its kind and its fields, and what stands in it.
 
-ghost use Rattle.std.specs.Prelude.{◌≡◌, OnOk, codes};
+ghost use Rattle.std.specs.Prelude.{◌≡◌, ◌<◌, ◌+◌, List, OnOk, codes};
 ghost use Rattle.std.specs.Char.{encode_utf8};
+ghost use Rattle.json.specs.Token.{Token};
 ghost use Rattle.rhai_lower.specs.View.{called, named, view};
 ghost use Rattle.rhai_json.specs.Fields.{◌▷◌, number_field, text_field};
-ghost use Rattle.rhai_json.specs.Trees.{call_fields, kind_of, link_fields, own_fields, variable_fields};
+ghost use Rattle.rhai_json.specs.Left.{all_json, block, node, node_weight, piece_json, pieces, properties, weight, weights};
+ghost use Rattle.rhai_json.specs.Trees.{begun, call_fields, kind_of, link_fields, node_json, own_fields};
+ghost use Rattle.rhai_json.specs.Trees.{variable_fields};
 
 use crate::fields::{
-    put_flag, put_integer, put_namespace, put_number, put_offset, put_optional_number, put_sign,
-    put_text,
+    begin_node, put_flag, put_integer, put_namespace, put_number, put_offset, put_optional_number,
+    put_sign, put_text,
 };
 use crate::out::Out;
+use crate::printer::{Part, Printer};
 use rhai_lower::{Expr, FnCallExpr, LinkFlags, VariableExpr};
 use std::alloc::AllocError;
 
-/// Rhai's name of the kind of an expression.
+// Rhai's name of the kind of an expression.
 #[tactic(auto, unfolding(crate::specs::Trees::kind_of))]
-pub fn expr_kind(expr: &Expr) -> &'static str
+fn expr_kind(expr: &Expr) -> &'static str
     ensures { result.now ≡ kind_of (view expr.now) }
 {
     match expr {
@@ -85,9 +89,9 @@ fn put_link(out: &mut Out, flags: LinkFlags) -> Result<(), AllocError>
     put_flag(out, "terminating", flags.terminating)
 }
 
-/// The fields of an expression that hold no further node.
+// The fields of an expression that hold no further node.
 #[tactic(auto, unfolding(crate::specs::Trees::own_fields))]
-pub fn put_expr_fields(out: &mut Out, expr: &Expr) -> Result<(), AllocError>
+fn put_expr_fields(out: &mut Out, expr: &Expr) -> Result<(), AllocError>
     ensures { OnOk result (out.new ≡ own_fields (view expr.now) out.old) }
 {
     match expr {
@@ -109,5 +113,55 @@ pub fn put_expr_fields(out: &mut Out, expr: &Expr) -> Result<(), AllocError>
         | Expr::Or(_, _)
         | Expr::Coalesce(_, _)
         | Expr::Stmt(_) => Ok(()),
+    }
+}
+
+impl<'a> Printer<'a> {
+    // What stands in an expression, and the end of its object.
+    #[tactic(auto, using(rhai_lower::proofs::Views::view_map), unfolding(crate::specs::Left::node_weight, crate::specs::Trees::node_json))]
+    fn push_parts(&mut self, expr: &'a Expr) -> Result<(), AllocError>
+        ensures out { self.new.out ≡ self.old.out }
+        ensures same { OnOk result ((ts : List Token) → all_json (pieces self.new) (begun (view expr.now) ts)
+            ≡ all_json (pieces self.old) (node_json (view expr.now) ts)) }
+        ensures less { OnOk result
+            (weights (pieces self.new) < node_weight (view expr.now) + weights (pieces self.old)) }
+    {
+        self.push(Part::EndObject)?;
+        match expr {
+            Expr::InterpolatedString(parts, _) => self.push_list("parts", Part::Exprs(parts)),
+            Expr::Array(items, _) => self.push_list("items", Part::Exprs(items)),
+            Expr::And(list, _) | Expr::Or(list, _) | Expr::Coalesce(list, _) => {
+                self.push_list("operands", Part::Exprs(list))
+            }
+            Expr::Map(properties, _) => {
+                self.push_list("properties", Part::Properties(properties))
+            }
+            Expr::FnCall(call, _) | Expr::MethodCall(call, _) => {
+                self.push_list("args", Part::Exprs(&call.args))
+            }
+            Expr::Dot(pair, _, _) | Expr::Index(pair, _, _) => self.push_pair(pair),
+            Expr::Stmt(block) => self.push_member("block", Part::Block(block)),
+            Expr::Unit(_)
+            | Expr::BoolConstant(_, _)
+            | Expr::IntegerConstant(_, _)
+            | Expr::CharConstant(_, _)
+            | Expr::StringConstant(_, _)
+            | Expr::FnPointer(_, _, _)
+            | Expr::Variable(_, _)
+            | Expr::ThisPtr(_)
+            | Expr::Property(_, _) => Ok(()),
+        }
+    }
+
+    /// Writes what begins an expression; what stands in it, and its end, are left.
+    pub(crate) fn put_expr(&mut self, expr: &'a Expr) -> Result<(), AllocError>
+        ensures same { OnOk result (all_json (pieces self.new) self.new.out
+            ≡ all_json (pieces self.old) (piece_json (node (view expr.now)) self.old.out)) }
+        ensures less { OnOk result
+            (weights (pieces self.new) < weight (node (view expr.now)) + weights (pieces self.old)) }
+    {
+        begin_node(&mut self.out, expr_kind(expr), expr.position())?;
+        put_expr_fields(&mut self.out, expr)?;
+        self.push_parts(expr)
     }
 }
