@@ -1,15 +1,17 @@
 //! `Printer`: a tree, written without recursion. A chain and a run of operators nest as deep as they are long, so what
 //! is still to be written is kept in a list.
 
+mod expr;
+mod stmt;
+
 ghost use Rattle.std.specs.Prelude.{◌≡◌, ◌<◌, ◌+◌, ◌∷◌, [], List, OnOk, codes, string_bytes};
 ghost use Rattle.json.specs.Print.{print};
 ghost use Rattle.json.specs.Token.{Token};
-ghost use Rattle.rhai_lower.specs.View.{arm_views, block_view, case_views, property_views, statement_views, view, views};
+ghost use Rattle.rhai_lower.specs.View.{arm_views, block_view, case_views, property_views, statement_views};
+ghost use Rattle.rhai_lower.specs.View.{view, views};
 ghost use Rattle.rhai_lower.specs.declared.expr.BinaryExpr.{out-BinaryExpr};
-ghost use Rattle.rhai_json.specs.Left.{all_json, arms, block, cases, list_of, name, node, nodes, piece_json, piece_of, pieces, properties, statements, weight, weights};
-
-mod expr;
-mod stmt;
+ghost use Rattle.rhai_json.specs.Left.{all_json, arms, block, cases, list_of, name, node, nodes, piece_json};
+ghost use Rattle.rhai_json.specs.Left.{piece_of, pieces, properties, statements, weight, weights};
 
 use crate::cases::put_indices;
 use crate::fields::{put_ident, put_position};

@@ -242,8 +242,8 @@ written_as UnaryMinus = codes "u-"
 written_as UnaryPlus = codes "u+"
 written_as t = literal_of t
 
--- `*` binds more strongly than `+`, and only `**` is right-associative. The minus of a difference is written `-`, that of
--- a negative number `u-`.
+-- `*` binds more strongly than `+`, and only `**` is right-associative. The minus of a difference is written `-`, that
+-- of a negative number `u-`.
 example : (strength_of Plus ≡ Some 150) × (strength_of Multiply ≡ Some 180) × (binds_right Multiply ≡ false)
     × (binds_right PowerOf ≡ true) × (written_as Minus ≡ codes "-") × (written_as UnaryMinus ≡ codes "u-")
     × (written_as LeftShiftAssign ≡ codes "<<=") × (kind_of_sign NotIn ≡ codes "NotIn")

@@ -65,7 +65,8 @@ impl<R: LentReaders> Reader<'_, R> {
         settings: ParseSettings,
     ) -> ParseResult<Vec<(Ident, Expr)>>
         requires lent { Lends R.lent self.now (fields no_properties) frame.now settings shared.old }
-        ensures { Reads self.now frame.now settings 0 (fields no_properties) properties_of shared.old result shared.new }
+        ensures { Reads self.now frame.now settings 0 (fields no_properties) properties_of shared.old result
+            shared.new }
     {
         let mut properties = NamedList::new(self.engine.alloc());
         loop {

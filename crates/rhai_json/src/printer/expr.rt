@@ -5,7 +5,8 @@ ghost use Rattle.std.specs.Char.{encode_utf8};
 ghost use Rattle.json.specs.Token.{Token};
 ghost use Rattle.rhai_lower.specs.View.{called, named, view};
 ghost use Rattle.rhai_json.specs.Fields.{◌▷◌, number_field, text_field};
-ghost use Rattle.rhai_json.specs.Left.{all_json, block, node, node_weight, piece_json, pieces, properties, weight, weights};
+ghost use Rattle.rhai_json.specs.Left.{all_json, block, node, node_weight, piece_json, pieces, properties, weight};
+ghost use Rattle.rhai_json.specs.Left.{weights};
 ghost use Rattle.rhai_json.specs.Trees.{begun, call_fields, kind_of, link_fields, node_json, own_fields};
 ghost use Rattle.rhai_json.specs.Trees.{variable_fields};
 
