@@ -1,6 +1,7 @@
 pub mod Texts
 pub mod Positions
 pub mod Tokens
+pub mod Symbols
 pub mod Lexemes
 pub mod Names
 pub mod Nodes

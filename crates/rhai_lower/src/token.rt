@@ -1,9 +1,10 @@
 //! `Token`: what the tokenizer delivers to the parser.
 
-ghost use Rattle.std.specs.Prelude.{◌≡◌, IfOk, IfSome, Some};
+ghost use Rattle.std.specs.Prelude.{◌≡◌, IfOk, Some};
 ghost use Rattle.std.specs.Fmt.{DisplaysOnOk};
 ghost use Rattle.std.specs.Rc.{rc_str_bytes};
-ghost use Rattle.rhai_lower.specs.Tokens.{strength_of, binds_right, assigns, literal_of, written_as};
+ghost use Rattle.rhai_lower.specs.Symbols.{Written, is_assignment, is_mark, is_operator, is_symbol, is_word};
+ghost use Rattle.rhai_lower.specs.Tokens.{assigns, binds_right, literal_of, strength_of};
 ghost use Rattle.rhai_lower.specs.Lexemes.{kind_of, text_of, lexeme};
 ghost use Rattle.rhai_lower.specs.Messages.{symbol_message};
 
@@ -508,86 +509,42 @@ impl Token {
     }
 }
 
-// Tokens by how they are written in a list.
-fn bracket(text: &str) -> Option<Token>
-    ensures { IfSome result (λ token. written_as token ≡ text.now) }
+// Tokens by how they are written in a list: words, operators that assign, other operators, and the rest.
+fn keyword(text: &str) -> Option<Token>
+    ensures { Written is_word text.now result }
 {
     Some(match text {
-        "()" => Token::Unit,
-        "{" => Token::LeftBrace,
-        "}" => Token::RightBrace,
-        "(" => Token::LeftParen,
-        ")" => Token::RightParen,
-        "[" => Token::LeftBracket,
-        "]" => Token::RightBracket,
-        "?[" => Token::QuestionBracket,
-        "#{" => Token::MapStart,
-        _ => return None,
-    })
-}
-
-fn separator(text: &str) -> Option<Token>
-    ensures { IfSome result (λ token. written_as token ≡ text.now) }
-{
-    Some(match text {
-        "." => Token::Period,
-        "?." => Token::Elvis,
-        "::" => Token::DoubleColon,
-        ":" => Token::Colon,
-        "," => Token::Comma,
-        ";" => Token::SemiColon,
-        "=>" => Token::DoubleArrow,
-        "=" => Token::Equals,
-        "!" => Token::Bang,
-        "_" => Token::Underscore,
-        _ => return None,
-    })
-}
-
-fn arithmetic(text: &str) -> Option<Token>
-    ensures { IfSome result (λ token. written_as token ≡ text.now) }
-{
-    Some(match text {
-        "u-" => Token::UnaryMinus,
-        "u+" => Token::UnaryPlus,
-        "+" => Token::Plus,
-        "-" => Token::Minus,
-        "*" => Token::Multiply,
-        "/" => Token::Divide,
-        "%" => Token::Modulo,
-        "**" => Token::PowerOf,
-        "<<" => Token::LeftShift,
-        ">>" => Token::RightShift,
-        "^" => Token::XOr,
-        "|" => Token::Pipe,
-        "&" => Token::Ampersand,
-        _ => return None,
-    })
-}
-
-fn relation(text: &str) -> Option<Token>
-    ensures { IfSome result (λ token. written_as token ≡ text.now) }
-{
-    Some(match text {
-        "||" => Token::Or,
-        "&&" => Token::And,
-        "==" => Token::EqualsTo,
-        "!=" => Token::NotEqualsTo,
         "in" => Token::In,
         "!in" => Token::NotIn,
-        "<" => Token::LessThan,
-        "<=" => Token::LessThanEqualsTo,
-        ">" => Token::GreaterThan,
-        ">=" => Token::GreaterThanEqualsTo,
-        "??" => Token::DoubleQuestion,
-        ".." => Token::ExclusiveRange,
-        "..=" => Token::InclusiveRange,
+        "if" => Token::If,
+        "else" => Token::Else,
+        "switch" => Token::Switch,
+        "while" => Token::While,
+        "loop" => Token::Loop,
+        "do" => Token::Do,
+        "until" => Token::Until,
+        "for" => Token::For,
+        "break" => Token::Break,
+        "continue" => Token::Continue,
+        "return" => Token::Return,
+        "throw" => Token::Throw,
+        "try" => Token::Try,
+        "catch" => Token::Catch,
+        "true" => Token::True,
+        "false" => Token::False,
+        "let" => Token::Let,
+        "const" => Token::Const,
+        "import" => Token::Import,
+        "export" => Token::Export,
+        "as" => Token::As,
+        "fn" => Token::Fn,
+        "private" => Token::Private,
         _ => return None,
     })
 }
 
 fn assignment(text: &str) -> Option<Token>
-    ensures { IfSome result (λ token. written_as token ≡ text.now) }
+    ensures { Written is_assignment text.now result }
 {
     Some(match text {
         "+=" => Token::PlusAssign,
@@ -605,41 +562,61 @@ fn assignment(text: &str) -> Option<Token>
     })
 }
 
-fn control(text: &str) -> Option<Token>
-    ensures { IfSome result (λ token. written_as token ≡ text.now) }
+fn operator(text: &str) -> Option<Token>
+    ensures { Written is_operator text.now result }
 {
     Some(match text {
-        "if" => Token::If,
-        "else" => Token::Else,
-        "switch" => Token::Switch,
-        "while" => Token::While,
-        "loop" => Token::Loop,
-        "do" => Token::Do,
-        "until" => Token::Until,
-        "for" => Token::For,
-        "break" => Token::Break,
-        "continue" => Token::Continue,
-        "return" => Token::Return,
-        "throw" => Token::Throw,
-        "try" => Token::Try,
-        "catch" => Token::Catch,
+        "+" => Token::Plus,
+        "-" => Token::Minus,
+        "*" => Token::Multiply,
+        "/" => Token::Divide,
+        "%" => Token::Modulo,
+        "**" => Token::PowerOf,
+        "<<" => Token::LeftShift,
+        ">>" => Token::RightShift,
+        "^" => Token::XOr,
+        "|" => Token::Pipe,
+        "&" => Token::Ampersand,
+        "||" => Token::Or,
+        "&&" => Token::And,
+        "==" => Token::EqualsTo,
+        "!=" => Token::NotEqualsTo,
+        "<" => Token::LessThan,
+        "<=" => Token::LessThanEqualsTo,
+        ">" => Token::GreaterThan,
+        ">=" => Token::GreaterThanEqualsTo,
+        "??" => Token::DoubleQuestion,
+        ".." => Token::ExclusiveRange,
+        "..=" => Token::InclusiveRange,
         _ => return None,
     })
 }
 
-fn keyword(text: &str) -> Option<Token>
-    ensures { IfSome result (λ token. written_as token ≡ text.now) }
+fn mark(text: &str) -> Option<Token>
+    ensures { Written is_mark text.now result }
 {
     Some(match text {
-        "true" => Token::True,
-        "false" => Token::False,
-        "let" => Token::Let,
-        "const" => Token::Const,
-        "import" => Token::Import,
-        "export" => Token::Export,
-        "as" => Token::As,
-        "fn" => Token::Fn,
-        "private" => Token::Private,
+        "()" => Token::Unit,
+        "{" => Token::LeftBrace,
+        "}" => Token::RightBrace,
+        "(" => Token::LeftParen,
+        ")" => Token::RightParen,
+        "[" => Token::LeftBracket,
+        "]" => Token::RightBracket,
+        "?[" => Token::QuestionBracket,
+        "#{" => Token::MapStart,
+        "." => Token::Period,
+        "?." => Token::Elvis,
+        "::" => Token::DoubleColon,
+        ":" => Token::Colon,
+        "," => Token::Comma,
+        ";" => Token::SemiColon,
+        "=>" => Token::DoubleArrow,
+        "=" => Token::Equals,
+        "!" => Token::Bang,
+        "_" => Token::Underscore,
+        "u-" => Token::UnaryMinus,
+        "u+" => Token::UnaryPlus,
         _ => return None,
     })
 }
@@ -647,13 +624,16 @@ fn keyword(text: &str) -> Option<Token>
 /// The token without payload that is written like this, with `u-` and `u+` for the signs before an operand; `None` if
 /// there is no such token.
 pub fn symbol(text: &str) -> Option<Token>
-    ensures { IfSome result (λ token. written_as token ≡ text.now) }
+    ensures { Written is_symbol text.now result }
 {
-    bracket(text)
-        .or_else(|| separator(text))
-        .or_else(|| arithmetic(text))
-        .or_else(|| relation(text))
-        .or_else(|| assignment(text))
-        .or_else(|| control(text))
-        .or_else(|| keyword(text))
+    if let Some(token) = keyword(text) {
+        return Some(token);
+    }
+    if let Some(token) = assignment(text) {
+        return Some(token);
+    }
+    if let Some(token) = operator(text) {
+        return Some(token);
+    }
+    mark(text)
 }
