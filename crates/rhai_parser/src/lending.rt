@@ -14,6 +14,7 @@ ghost use Rattle.rhai_readers.specs.Heights.{function_height};
 ghost use Rattle.rhai_trees.specs.Chains.{chain_view};
 
 use rhai_base::{Frame, ParseSettings};
+use rhai_constructs as constructs;
 use rhai_expressions as expressions;
 use rhai_grammar::{Closing, Construct, ParseResult};
 use rhai_leaves::due::end_due;
@@ -195,7 +196,7 @@ fn parse_construct(
     ensures { NestsAs engine.now frame.now settings 5 (construct kind) statement_view shared.old result shared.new }
 {
     let readers = lent!();
-    let reader = statements::Reader { engine, readers };
+    let reader = constructs::Reader { engine, readers };
     reader.parse_construct(shared, frame, settings, kind)
 }
 

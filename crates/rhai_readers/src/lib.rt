@@ -12,11 +12,13 @@ macro_rules! nested {
     }};
 }
 
+mod blocks;
 mod config;
 mod lent;
 mod parameters;
 mod shared;
 
+pub use blocks::parse_block;
 pub use config::Config;
 pub use lent::LentReaders;
 pub use parameters::{declare_parameters, next_parameters};

@@ -1,7 +1,7 @@
 -- Rules for the proofs of the readers of statements. For each reader they have its equation, and what it makes of what
 -- it read.
 use Rattle.rhai_lower.proofs.Views.{view_noop, view_unit}
-use Rattle.rhai_reading.proofs.Steps.{nested_so, step_block, step_comments, step_definition, step_export, step_expr_statement, step_function, step_function_statement, step_import, step_initializer, step_inside, step_jump, step_parameter_list, step_statement, step_statements}
+use Rattle.rhai_reading.proofs.Steps.{nested_so, step_block, step_comments, step_construct, step_definition, step_export, step_expr_statement, step_function, step_function_statement, step_import, step_initializer, step_inside, step_jump, step_parameter_list, step_statement, step_statements}
 use Rattle.rhai_readers.proofs.Readers.{calls_of_readers, readers}
 use Rattle.rhai_readers.proofs.Heights.{function_ends, gap_most, given_up, no_function, one_function}
 
@@ -22,6 +22,8 @@ pub ruleset parse_expr_stmt = (readers, nested_so, step_expr_statement)
 pub ruleset parse_block_inside = (readers, nested_so, step_inside, no_function)
 
 pub ruleset parse_block = (readers, nested_so, step_block)
+
+pub ruleset parse_block_statement = (readers, nested_so, step_construct)
 
 pub ruleset parse_jump = (readers, nested_so, step_jump)
 

@@ -1,3 +1,2 @@
-pub mod Switches
 pub mod RareStatements
 pub mod Readers

@@ -1,10 +1,8 @@
--- Statements and constructs by how often they are read, and what is known where a statement begins.
+-- Statements by how often they are read, and what is known where a statement begins.
 use Rattle.std.specs.Prelude.{◌≡◌, Bool, true, false, refl}
 use Rattle.rhai_lower.specs.declared.position.Position.{Position}
 use Rattle.rhai_grammar.specs.Delivered.{is_memory}
 use Rattle.rhai_grammar.specs.Statements.{statement_start}
-use Rattle.rhai_grammar.specs.declared.role.Construct.{Construct}
-use Rattle.rhai_grammar.specs.declared.role.Construct.TheVariants as construct
 use Rattle.rhai_grammar.specs.declared.role.StatementStart.{StatementStart}
 use Rattle.rhai_grammar.specs.declared.role.StatementStart.TheVariants as start
 use Rattle.rhai_reading.specs.Running.{Progress, after_peek, next_item}
@@ -31,14 +29,8 @@ is_rare start.Break = false
 is_rare start.Continue = false
 is_rare _ = true
 
--- a block, which begins with no keyword
-abbrev pub is_block : Construct → Bool
-is_block construct.Block = true
-is_block _ = false
-
 example : (is_rare start.Let ≡ true) × (is_rare start.Return ≡ false) × (is_jump start.Return ≡ true)
-    × (is_block construct.Block ≡ true) × (is_block construct.While ≡ false)
-example = (refl, refl, refl, refl, refl)
+example = (refl, refl, refl)
 
 -- The next token, which is at this position, has been looked at, there was memory for it, and such a statement begins
 -- with it.

@@ -1,19 +1,16 @@
 -- What the readers of this crate require of the readers that they are lent, and what they promise, in one word each.
 -- The value of a reader has the engine that it reads under, and the readers.
-use Rattle.std.specs.Prelude.{ℕ, ◌≡◌, ◌+◌, ◌≤◌, Bool, List, Result, false}
+use Rattle.std.specs.Prelude.{ℕ, ◌≡◌, ◌+◌, Bool, List, Result, false}
 use Rattle.std.specs.declared.alloc.Global.{Global}
 use Rattle.std.specs.declared.rc.Rc.{Rc}
 use Rattle.std.specs.declared.rc.RcStr.{RcStr}
-use Rattle.smallvec.specs.SmallVec.{SmallVec}
 use Rattle.rhai_lower.specs.Nodes as node
 use Rattle.rhai_lower.specs.View.{statement_view}
 use Rattle.rhai_lower.specs.declared.ast.ScriptFuncDef.{ScriptFuncDef}
-use Rattle.rhai_lower.specs.declared.expr.Expr.{Expr}
 use Rattle.rhai_lower.specs.declared.position.Position.{Position}
 use Rattle.rhai_lower.specs.declared.stmt.Stmt.{Stmt}
 use Rattle.rhai_grammar.specs.Comments.{Comment}
 use Rattle.rhai_grammar.specs.Contexts.{Context, Live}
-use Rattle.rhai_grammar.specs.Cursors.{left}
 use Rattle.rhai_grammar.specs.Keys.{is_closure, key_of}
 use Rattle.rhai_grammar.specs.declared.error.ParseError.{ParseError}
 use Rattle.rhai_grammar.specs.declared.key.FnKey.{FnKey}
@@ -25,10 +22,9 @@ use Rattle.rhai_base.specs.declared.settings.ParseSettings.{ParseSettings}
 use Rattle.rhai_readers.specs.Frames.{context_of, live_of}
 use Rattle.rhai_readers.specs.Heights.{function_height}
 use Rattle.rhai_readers.specs.Parts.{ReadsSuch, TakesPart}
-use Rattle.rhai_readers.specs.Readers.{Covers, NestsAs, Reading, ReadsAs, cases, ended_view, function}
-use Rattle.rhai_readers.specs.Readers.{function_statement, state_of, with_live}
+use Rattle.rhai_readers.specs.Readers.{Covers, NestsAs, Reading, ReadsAs, ended_view, function}
+use Rattle.rhai_readers.specs.Readers.{function_statement, with_live}
 use Rattle.rhai_readers.specs.declared.shared.Shared.{Shared}
-use Rattle.rhai_statements.specs.Switches.{cases_view}
 use Rattle.rhai_statements.specs.declared.reader.Reader.{Reader}
 
 -- Calls of each need below that of this goal may be made.
@@ -48,24 +44,12 @@ abbrev pub Nests : {R : Type 0} → (reader : Reader R) → (frame : FrameValue)
     → Shared → Result X ParseError → Shared → Type 0
 Nests reader frame settings height goal view = NestsAs reader.engine.now frame settings height goal view
 
--- The same of a reader that takes a token where it succeeds.
-abbrev pub Takes : {R : Type 0} → (reader : Reader R) → (frame : FrameValue) → (settings : ParseSettings) → (height : ℕ)
-    → (goal : Reading) → {X : Type 0} → (X → Val (goal reader.engine.now frame settings))
-    → Shared → Result X ParseError → Shared → Type 0
-Takes reader frame settings height goal view old result new =
-    ReadsSuch reader.engine.now frame settings height goal view
-    (λ x. left (state_of new).cursor.tokens + 1 ≤ left (state_of old).cursor.tokens) old result new
-
 -- The same of a reader that may define in its frame: what is around the frame stays.
 abbrev pub Defines : {R : Type 0} → (reader : Reader R) → (before after : FrameValue) → (settings : ParseSettings)
     → (height : ℕ) → (goal : Reading) → {X : Type 0} → (X → Val (goal reader.engine.now before settings))
     → Shared → Result X ParseError → Shared → Type 0
 Defines reader before after settings height goal view old result new =
     ReadsAs reader.engine.now before settings height goal view old result new × SameSurroundings before after
-
--- the cases of an arm, after these
-abbrev pub cases_after : SmallVec Expr → Reading
-cases_after before = cases (cases_view before)
 
 -- the comments before a function
 abbrev Comments : Type 0

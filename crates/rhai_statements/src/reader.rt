@@ -7,6 +7,6 @@ use rhai_readers::Config;
 pub struct Reader<'r, R> {
     /// What statements are read under.
     pub engine: &'r Config,
-    /// What reads the expressions and statements in them.
+    /// What reads the expressions, statements and constructs in them.
     pub readers: R,
 }

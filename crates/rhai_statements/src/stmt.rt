@@ -24,7 +24,7 @@ use crate::stmt::asks::{end_assignment, next_var_name, starts_expression};
 use crate::stmt::definitions::{define_as, export_name};
 use rhai_base::allowed::{test_global, test_loop};
 use rhai_base::{Frame, ParseSettingFlags, ParseSettings};
-use rhai_grammar::{Closing, ParseResult, StatementStart};
+use rhai_grammar::{Closing, Construct, ParseResult, StatementStart};
 use rhai_leaves::cursor::{peek, skip, take};
 use rhai_leaves::statements::{
     assigns, has_value, list_ends, next_alias, parse_var_name, statement_continues,
@@ -96,7 +96,12 @@ impl<R: LentReaders> Reader<'_, R> {
                 let settings = settings.at(pos);
                 skip(shared.input);
                 let deeper = settings.level_up()?.level_up()?;
-                self.parse_construct(shared, frame, deeper, kind)
+                match kind {
+                    Construct::Block => self.parse_block_statement(shared, frame, deeper),
+                    _ => self
+                        .readers
+                        .parse_construct(self.engine, shared, frame, deeper, kind),
+                }
             }
             StatementStart::Return
             | StatementStart::Throw

@@ -1,0 +1,2 @@
+pub mod ConstructReaders
+pub mod SwitchLemmas
