@@ -11,7 +11,7 @@ use Rattle.rhai_reading.specs.Reading.{Val}
 use Rattle.rhai_base.specs.Frames.{FrameValue}
 use Rattle.rhai_base.specs.declared.settings.ParseSettings.{ParseSettings}
 use Rattle.rhai_readers.specs.Parts.{ReadsSuch}
-use Rattle.rhai_readers.specs.Readers.{Covers, NestsAs, Reading, ReadsAs, cases, state_of}
+use Rattle.rhai_readers.specs.Readers.{Covers, Reading, ReadsAs, cases, state_of}
 use Rattle.rhai_readers.specs.declared.shared.Shared.{Shared}
 use Rattle.rhai_constructs.specs.Switches.{cases_view}
 use Rattle.rhai_constructs.specs.declared.reader.Reader.{Reader}
@@ -26,12 +26,6 @@ abbrev pub Reads : {R : Type 0} → (reader : Reader R) → (frame : FrameValue)
     → (goal : Reading) → {X : Type 0} → (X → Val (goal reader.engine.now frame settings))
     → Shared → Result X ParseError → Shared → Type 0
 Reads reader frame settings height goal view = ReadsAs reader.engine.now frame settings height goal view
-
--- The same of a reader that counts.
-abbrev pub Nests : {R : Type 0} → (reader : Reader R) → (frame : FrameValue) → (settings : ParseSettings) → (height : ℕ)
-    → (goal : Reading) → {X : Type 0} → (X → Val (goal reader.engine.now frame settings))
-    → Shared → Result X ParseError → Shared → Type 0
-Nests reader frame settings height goal view = NestsAs reader.engine.now frame settings height goal view
 
 -- The same of a reader that takes a token where it succeeds.
 abbrev pub Takes : {R : Type 0} → (reader : Reader R) → (frame : FrameValue) → (settings : ParseSettings) → (height : ℕ)

@@ -4,10 +4,10 @@ pub(crate) mod control;
 
 ghost use Rattle.std.specs.Prelude.{◌≡◌, false};
 ghost use Rattle.rhai_lower.specs.View.{block_view, statement_view, view};
-ghost use Rattle.rhai_grammar.specs.declared.role.Construct.TheVariants.{Block, Do, For, Loop, Try, While};
+ghost use Rattle.rhai_grammar.specs.declared.role.Construct.TheVariants.{Do, For, Loop, Try, While};
 ghost use Rattle.rhai_readers.specs.Readers.{braced, branch, conditional};
 ghost use Rattle.rhai_readers.specs.Readers.{construct, guard, iterated};
-ghost use Rattle.rhai_constructs.specs.Readers.{Lends, Nests, Reads, is_block};
+ghost use Rattle.rhai_constructs.specs.Readers.{Lends, Reads, is_block};
 
 use crate::construct::control::{catch_frame, end_guard, end_iterated, loop_frame};
 use crate::reader::Reader;
@@ -20,75 +20,14 @@ use rhai_leaves::due::pass_token;
 use rhai_lower::{Expr, Position, Stmt, StmtBlock};
 use rhai_readers::{LentReaders, Shared, nested, parse_block};
 use rhai_trees::construct::{make_do, make_for, make_if, make_try, make_while};
-use rhai_trees::statement::{make_block_statement, no_block};
+use rhai_trees::statement::no_block;
 
 impl<R: LentReaders> Reader<'_, R> {
-    /// Reads a construct of this kind after its first token, where the settings stand, as a reader that counts.
-    #[inline(always)]
+    /// Reads a construct of this kind after its keyword, where the settings stand. A block has none, so it is not read
+    /// here.
+    #[inline(never)]
     #[tactic(auto, using(crate::proofs::ConstructReaders::parse_construct))]
     pub fn parse_construct(
-        &self,
-        shared: &mut Shared<'_>,
-        frame: &Frame<'_>,
-        settings: ParseSettings,
-        kind: Construct,
-    ) -> ParseResult<Stmt>
-        requires lent { Lends R.lent self.now (construct kind) frame.now settings shared.old }
-        ensures { Nests self.now frame.now settings 5 (construct kind) statement_view shared.old result shared.new }
-    {
-        match kind {
-            Construct::Block => self.parse_block_statement(shared, frame, settings),
-            _ => self.parse_keyword_construct(shared, frame, settings, kind),
-        }
-    }
-
-    // Reads a block as a statement, as a reader that counts. It is apart from other constructs, since most are blocks,
-    // and a function clears all its locals when it begins.
-    #[inline(never)]
-    #[tactic(auto, using(crate::proofs::ConstructReaders::parse_construct))]
-    fn parse_block_statement(
-        &self,
-        shared: &mut Shared<'_>,
-        frame: &Frame<'_>,
-        settings: ParseSettings,
-    ) -> ParseResult<Stmt>
-        requires lent { Lends R.lent self.now (construct Block) frame.now settings shared.old }
-        ensures { Nests self.now frame.now settings 5 (construct Block) statement_view shared.old result shared.new }
-    {
-        let block = nested!(
-            shared,
-            nested!(
-                shared,
-                parse_block(self.engine, &self.readers, shared, frame, settings)
-            )
-        )?;
-        Ok(make_block_statement(block))
-    }
-
-    // Reads a construct after its keyword, as a reader that counts.
-    #[inline(never)]
-    #[tactic(auto, using(crate::proofs::ConstructReaders::parse_construct))]
-    fn parse_keyword_construct(
-        &self,
-        shared: &mut Shared<'_>,
-        frame: &Frame<'_>,
-        settings: ParseSettings,
-        kind: Construct,
-    ) -> ParseResult<Stmt>
-        requires keyword { is_block kind ≡ false }
-        requires lent { Lends R.lent self.now (construct kind) frame.now settings shared.old }
-        ensures { Nests self.now frame.now settings 5 (construct kind) statement_view shared.old result shared.new }
-    {
-        nested!(
-            shared,
-            self.parse_after_keyword(shared, frame, settings, kind)
-        )
-    }
-
-    // Reads a construct after its keyword.
-    #[inline(always)]
-    #[tactic(auto, using(crate::proofs::ConstructReaders::parse_construct))]
-    fn parse_after_keyword(
         &self,
         shared: &mut Shared<'_>,
         frame: &Frame<'_>,

@@ -1,4 +1,4 @@
-//! Readers of constructs: blocks as statements, conditions, loops, `try`, and `switch`.
+//! Readers of constructs that have a keyword: conditions, loops, `try`, and `switch`.
 #![tactic(auto)]
 
 mod construct;

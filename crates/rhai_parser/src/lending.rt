@@ -196,8 +196,19 @@ fn parse_construct(
     ensures { NestsAs engine.now frame.now settings 5 (construct kind) statement_view shared.old result shared.new }
 {
     let readers = lent!();
-    let reader = constructs::Reader { engine, readers };
-    reader.parse_construct(shared, frame, settings, kind)
+    match kind {
+        Construct::Block => {
+            let reader = statements::Reader { engine, readers };
+            reader.parse_block_statement(shared, frame, settings)
+        }
+        _ => {
+            let reader = constructs::Reader { engine, readers };
+            nested!(
+                shared,
+                reader.parse_construct(shared, frame, settings, kind)
+            )
+        }
+    }
 }
 
 /// Reads the statements of a block up to its `}`, which stays. Its definitions end with it.

@@ -19,7 +19,7 @@ impl<R: LentReaders> Reader<'_, R> {
     /// statements, since a function clears all its locals when it begins.
     #[inline(never)]
     #[tactic(auto, using(crate::proofs::StmtReaders::parse_block_statement))]
-    pub(crate) fn parse_block_statement(
+    pub fn parse_block_statement(
         &self,
         shared: &mut Shared<'_>,
         frame: &Frame<'_>,

@@ -1,9 +1,9 @@
 -- What these functions lend, where less is left to do than at their own call.
-use Rattle.std.proofs.Common.{ℕ, ◌≡◌, ◌<◌, ◌∙◌, ap, arith, false, subst, sym}
+use Rattle.std.proofs.Common.{ℕ, ◌≡◌, ◌<◌, ◌∙◌, ap, arith, false, rules, subst, sym}
 use Rattle.rhai_grammar.specs.Beginnings.{beginning}
 use Rattle.rhai_readers.specs.PlainPrimaries.{is_plain}
 use Rattle.rhai_reading.specs.Running.{need, next_item}
-use Rattle.rhai_readers.specs.Readers.{expression, inside, primary, statement}
+use Rattle.rhai_readers.specs.Readers.{construct, expression, inside, primary, state_of, statement}
 use Rattle.rhai_parser.proofs.lending.+parser.Goals as goal
 
 -- A need that falls below another is below what that other is measured by.
@@ -34,9 +34,22 @@ parse_stmt-parse_stmt-requires t c =
       );
     }
 
+pub parse_construct-parse_block_statement-requires : goal.parse_construct-parse_block_statement-requires
+parse_construct-parse_block_statement-requires t c =
+    let same = ap (λ kind. need (construct kind c.args.engine.now c.args.frame.now c.args.settings) (state_of c.args.shared.now)) (sym c.in-Block.is) ∙ c.decreases in record {
+      lent = λ m below. (
+        λ engine shared frame settings is. ((falls is below same, tt), λ result after told. told.1),
+        λ engine shared frame settings is. ((falls is below same, tt), λ result after after_frame told. told.1),
+        λ engine shared frame settings kind is. ((falls is below same, tt), λ result after told. told.2),
+        λ engine shared frame settings is. ((falls is below same, tt), λ result after told. told.1),
+        λ engine shared frame settings compound is. ((falls is below same, compound), λ result after told. told.1),
+      );
+    }
+
 pub parse_construct-parse_construct-requires : goal.parse_construct-parse_construct-requires
 parse_construct-parse_construct-requires t c =
-    let same = c.decreases in record {
+    let same = ap (need (construct c.args.kind c.args.engine.now c.args.frame.now c.args.settings)) c.nested-enter.ensures.enters ∙ c.decreases in record {
+      keyword = search rules;
       lent = λ m below. (
         λ engine shared frame settings is. ((falls is below same, tt), λ result after told. told.1),
         λ engine shared frame settings is. ((falls is below same, tt), λ result after after_frame told. told.1),
