@@ -1,9 +1,10 @@
--- A refusal in a case of `switch`, and the end of an arm. The reading program makes of them what the code does.
+-- A refusal in a case of `switch`, and the ends of arms. The reading program makes of them what the code does.
 use Rattle.std.proofs.Common.{◌≡◌, Bool, true, false, refl, ap, sym, ◌∙◌, Result, Ok, Err, None}
 use Rattle.rhai_lower.specs.Nodes.{Node, Nodes}
 use Rattle.rhai_grammar.specs.Causes.{MemoryIsNowhere, Says, as_literal, is_for_memory, refusal_of}
 use Rattle.rhai_grammar.specs.declared.error.ParseError.{ParseError}
-use Rattle.rhai_reading.specs.Reading.{ArmEnd, arm_on}
+use Rattle.rhai_lower.specs.declared.position.Position.{Position}
+use Rattle.rhai_reading.specs.Reading.{ArmEnd, DefaultEnd, arm_on, default_on}
 use Rattle.rhai_reading.specs.Running as R
 use Rattle.rhai_reading.specs.Running.{Caller, Fails, Gives, Progress, and_then, exec, recast, result_of}
 
@@ -30,3 +31,19 @@ arm_ended call xs guard action ends s t (Ok done) at_end given =
     ap (λ o. and_then o (λ v u. R.Done (xs, guard, action) u)) (at_end ∙ given)
 arm_ended call xs guard action ends s t (Err e) at_end given =
     (λ told. ap (λ o. and_then o (λ v u. R.Done (xs, guard, action) u)) (at_end ∙ given.0 told), given.1)
+
+-- the end of the arms after the default arm, which does this; no error is at its comma
+pub default_ended : (call : Caller) (action : Node) (ends : Bool) (default : Position) (s t u : Progress)
+    → (r : Result Unit ParseError) → call (ArmEnd ends) s ≡ R.Done tt t
+    → call (DefaultEnd default) t ≡ result_of (DefaultEnd default) t
+    → Gives (λ done. tt) (result_of (DefaultEnd default) t) r u
+    → Gives (λ done. action) (exec call (default_on (action, ends) default) s) r u
+default_ended call action ends default s t u (Ok done) comma at_close given =
+    ap (λ o. and_then o (λ v w. and_then (call (DefaultEnd default) w) (λ x y. R.Done action y))) comma
+    ∙ ap (λ o. and_then o (λ v w. R.Done action w)) (at_close ∙ given)
+default_ended call action ends default s t u (Err e) comma at_close given = (
+  λ told.
+      ap (λ o. and_then o (λ v w. and_then (call (DefaultEnd default) w) (λ x y. R.Done action y))) comma
+      ∙ ap (λ o. and_then o (λ v w. R.Done action w)) (at_close ∙ given.0 told),
+  given.1,
+)

@@ -46,6 +46,7 @@ impl<R: LentReaders> Reader<'_, R> {
     }
 
     /// Reads the arms of a `switch`, up to the `}`.
+    #[inline(always)]
     #[tactic(auto, using(crate::proofs::ConstructReaders::parse_arms))]
     fn parse_arms(
         &self,
@@ -57,6 +58,23 @@ impl<R: LentReaders> Reader<'_, R> {
         ensures { Reads self.now frame.now settings 4 (arms nothing_collected) arms_view shared.old result shared.new }
     {
         let in_cases = frame.in_case(self.engine.alloc());
+        self.parse_arms_with(shared, frame, &in_cases, settings)
+    }
+
+    // Reads the arms of a `switch`, up to the `}`, their cases in this frame of their own. It is apart, since it may
+    // return at seven places, and the proof of each takes long if a frame is dropped there.
+    #[tactic(auto, using(crate::proofs::ConstructReaders::parse_arms))]
+    fn parse_arms_with(
+        &self,
+        shared: &mut Shared<'_>,
+        frame: &Frame<'_>,
+        in_cases: &Frame<'_>,
+        settings: ParseSettings,
+    ) -> ParseResult<Arms>
+        requires in_cases { CaseFrame frame.now in_cases.now }
+        requires lent { Lends R.lent self.now (arms nothing_collected) frame.now settings shared.old }
+        ensures { Reads self.now frame.now settings 4 (arms nothing_collected) arms_view shared.old result shared.new }
+    {
         let mut arms = new_arms(self.engine.alloc());
         loop {
             match next_arm(self.engine.alloc(), shared.input)? {
@@ -72,7 +90,7 @@ impl<R: LentReaders> Reader<'_, R> {
             }
             let arm = nested!(
                 shared,
-                self.parse_arm(shared, frame, &in_cases, settings, &arms)
+                self.parse_arm(shared, frame, in_cases, settings, &arms)
             )?;
             push_arm(
                 self.engine.alloc(),

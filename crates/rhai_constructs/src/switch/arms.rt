@@ -44,7 +44,6 @@ pub struct Arm {
 }
 
 /// The case of an arm: each error in it is that of a missing literal, at its place, except that memory ran out.
-#[tactic(auto, using(crate::proofs::SwitchLemmas::recast_given))]
 pub(crate) fn as_case(alloc: Global, case: ParseResult<Expr>) -> ParseResult<Expr>
     ensures { (o : Out Node) (t : Progress) → Gives view o case t
         → Gives view (and_then (recast o) (λ x u. Done x u)) result t }
@@ -113,6 +112,28 @@ pub(crate) fn end_arm(
     })
 }
 
+// Takes the comma after the default arm, whose `_` is at `default`, and the `}` of the `switch`. Both are refused here,
+// so that what the arm does is dropped in one place.
+#[inline(always)]
+fn end_arms(
+    alloc: Global,
+    shared: &mut Shared<'_>,
+    ends: bool,
+    default: Position,
+) -> ParseResult<()>
+    ensures goes_on { GoesOn shared.old shared.new }
+    ensures steady { Steady shared.old shared.new }
+    ensures gives { (call : Caller) (action : Node) → call (ArmEnd ends) (state_of shared.old)
+        ≡ result_of (ArmEnd ends) (state_of shared.old)
+        → ((t : Progress) → left t.cursor.tokens ≤ left (state_of shared.old).cursor.tokens
+        → call (DefaultEnd default) t ≡ result_of (DefaultEnd default) t)
+        → Gives (λ done. action) (exec call (default_on (action, ends) default) (state_of shared.old)) result
+        (state_of shared.new) }
+{
+    arm_continues(alloc, shared.input, ends)?;
+    default_ends(alloc, shared.input, default)
+}
+
 /// What the default arm does, whose `_` is at `default`; a comma after it is taken, and the `}` of the `switch`.
 pub(crate) fn end_default(
     alloc: Global,
@@ -129,8 +150,6 @@ pub(crate) fn end_default(
         → Gives view (exec call (default_on (action_view does) default) (state_of shared.old)) result
         (state_of shared.new) }
 {
-    arm_continues(alloc, shared.input, does.ends)?;
-    default_ends(alloc, shared.input, default)?;
-    let Action { expr, ends: _ } = does;
-    Ok(expr)
+    end_arms(alloc, shared, does.ends, default)?;
+    Ok(does.expr)
 }

@@ -12,5 +12,5 @@ returns g c = record {
   stays = grind arith;
   reads =
       let call = guarded (iterated c.args.self.now.engine.now c.args.frame.now c.args.settings) (state_of c.args.shared.now) in
-      gives_so view c.end_iterated.result (state_of c.parse_expr.new.shared) (grind (arith, rule.parse_iterated)) (c.end_iterated.ensures.gives call _);
+      gives_so view c.end_iterated.result (state_of c.parse_expr.new.shared) (grind (arith, rule.parse_iterated)) (c.end_iterated.ensures.gives call (state_of c.parse_expr.new.shared));
 }

@@ -5,7 +5,7 @@ use Rattle.rhai_cases.specs.Arms.{Indexed, arms_view}
 use Rattle.rhai_reading.specs.Running.{result_of}
 use Rattle.rhai_readers.specs.Readers.{GoesOn, arms, state_of}
 use Rattle.rhai_readers.specs.Heights.{Stays}
-use Rattle.rhai_constructs.proofs.reader.Reader.parse_arms.Given as goal
+use Rattle.rhai_constructs.proofs.reader.Reader.parse_arms_with.Given as goal
 
 abbrev pub invariant-loop-arms : goal.invariant-loop-arms
 invariant-loop-arms g l = record {
