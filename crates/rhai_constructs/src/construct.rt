@@ -5,8 +5,10 @@ pub(crate) mod control;
 ghost use Rattle.std.specs.Prelude.{◌≡◌, false};
 ghost use Rattle.rhai_lower.specs.View.{block_view, statement_view, view};
 ghost use Rattle.rhai_grammar.specs.declared.role.Construct.TheVariants.{Do, For, Loop, Try, While};
+ghost use Rattle.rhai_leaves.specs.Constructs.{loop_view};
 ghost use Rattle.rhai_readers.specs.Readers.{braced, branch, conditional};
 ghost use Rattle.rhai_readers.specs.Readers.{construct, guard, iterated};
+ghost use Rattle.rhai_constructs.specs.Frames.{catch_view, in_catch, in_loop};
 ghost use Rattle.rhai_constructs.specs.Readers.{Lends, Reads, is_block};
 
 use crate::construct::control::{catch_frame, end_guard, end_iterated, loop_frame};
@@ -14,13 +16,14 @@ use crate::reader::Reader;
 use rhai_base::{Frame, ParseSettings};
 use rhai_grammar::{Construct, DueToken, ParseResult};
 use rhai_leaves::blocks::begin_block;
-use rhai_leaves::constructs::{end_do, guard_begins, next_catch, next_loop_names};
+use rhai_leaves::constructs::{LoopNames, end_do, guard_begins, next_catch, next_loop_names};
 use rhai_leaves::cursor::peek;
 use rhai_leaves::due::pass_token;
 use rhai_lower::{Expr, Position, Stmt, StmtBlock};
 use rhai_readers::{LentReaders, Shared, nested, parse_block};
 use rhai_trees::construct::{make_do, make_for, make_if, make_try, make_while};
 use rhai_trees::statement::no_block;
+use std::rc::RcStr;
 
 impl<R: LentReaders> Reader<'_, R> {
     /// Reads a construct of this kind after its keyword, where the settings stand. A block has none, so it is not read
@@ -225,10 +228,9 @@ impl<R: LentReaders> Reader<'_, R> {
     {
         let names = next_loop_names(self.engine.alloc(), shared.input)?;
         let over = nested!(shared, self.parse_iterated(shared, frame, settings))?;
-        let inner = loop_frame(self.engine.alloc(), frame, &names)?;
         let body = nested!(
             shared,
-            self.parse_braces(shared, &inner, settings.loop_body())
+            self.parse_loop_body(shared, frame, &names, settings.loop_body())
         )?;
         Ok(make_for(
             self.engine.alloc(),
@@ -238,6 +240,25 @@ impl<R: LentReaders> Reader<'_, R> {
             body,
             settings.pos,
         )?)
+    }
+
+    // Reads the block of a `for`, in which these names are live. It is apart, since the proof of each place where
+    // `parse_for` may return takes long if a frame is dropped there.
+    #[inline(always)]
+    #[tactic(auto, using(crate::proofs::ConstructReaders::parse_braces))]
+    fn parse_loop_body(
+        &self,
+        shared: &mut Shared<'_>,
+        frame: &Frame<'_>,
+        names: &LoopNames,
+        settings: ParseSettings,
+    ) -> ParseResult<StmtBlock>
+        requires lent { Lends R.lent self.now braced (in_loop (loop_view names.now) frame.now) settings shared.old }
+        ensures { Reads self.now (in_loop (loop_view names.now) frame.now) settings 0 braced block_view shared.old result
+            shared.new }
+    {
+        let inner = loop_frame(self.engine.alloc(), frame, names)?;
+        self.parse_braces(shared, &inner, settings)
     }
 
     /// Reads a `try` after its keyword, where the settings stand. The variable of its `catch` is live in the block of
@@ -254,8 +275,26 @@ impl<R: LentReaders> Reader<'_, R> {
     {
         let body = nested!(shared, self.parse_braces(shared, frame, settings))?;
         let name = next_catch(self.engine.alloc(), shared.input)?;
-        let inner = catch_frame(self.engine.alloc(), frame, &name)?;
-        let handler = nested!(shared, self.parse_braces(shared, &inner, settings))?;
+        let handler = nested!(shared, self.parse_handler(shared, frame, &name, settings))?;
         Ok(make_try(self.engine.alloc(), body, name, handler, settings.pos)?)
+    }
+
+    // Reads the block of a `catch`, in which this variable is live, if it has one. It is apart as the block of a `for`
+    // is.
+    #[inline(always)]
+    #[tactic(auto, using(crate::proofs::ConstructReaders::parse_braces))]
+    fn parse_handler(
+        &self,
+        shared: &mut Shared<'_>,
+        frame: &Frame<'_>,
+        name: &Option<(RcStr, Position)>,
+        settings: ParseSettings,
+    ) -> ParseResult<StmtBlock>
+        requires lent { Lends R.lent self.now braced (in_catch (catch_view name.now) frame.now) settings shared.old }
+        ensures { Reads self.now (in_catch (catch_view name.now) frame.now) settings 0 braced block_view shared.old result
+            shared.new }
+    {
+        let inner = catch_frame(self.engine.alloc(), frame, name)?;
+        self.parse_braces(shared, &inner, settings)
     }
 }
