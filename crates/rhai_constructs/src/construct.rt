@@ -254,8 +254,8 @@ impl<R: LentReaders> Reader<'_, R> {
         settings: ParseSettings,
     ) -> ParseResult<StmtBlock>
         requires lent { Lends R.lent self.now braced (in_loop (loop_view names.now) frame.now) settings shared.old }
-        ensures { Reads self.now (in_loop (loop_view names.now) frame.now) settings 0 braced block_view shared.old result
-            shared.new }
+        ensures { Reads self.now (in_loop (loop_view names.now) frame.now) settings 0 braced block_view shared.old
+            result shared.new }
     {
         let inner = loop_frame(self.engine.alloc(), frame, names)?;
         self.parse_braces(shared, &inner, settings)
@@ -291,8 +291,8 @@ impl<R: LentReaders> Reader<'_, R> {
         settings: ParseSettings,
     ) -> ParseResult<StmtBlock>
         requires lent { Lends R.lent self.now braced (in_catch (catch_view name.now) frame.now) settings shared.old }
-        ensures { Reads self.now (in_catch (catch_view name.now) frame.now) settings 0 braced block_view shared.old result
-            shared.new }
+        ensures { Reads self.now (in_catch (catch_view name.now) frame.now) settings 0 braced block_view shared.old
+            result shared.new }
     {
         let inner = catch_frame(self.engine.alloc(), frame, name)?;
         self.parse_braces(shared, &inner, settings)
