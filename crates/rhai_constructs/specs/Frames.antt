@@ -1,4 +1,5 @@
--- The frames of the blocks of a construct in which its own variables are live.
+-- Frames as what is read in the block of a construct sees them, where the construct's own variables are live. How deep
+-- the frame of the block is, which is one more, is left out: no goal depends on it.
 use Rattle.std.specs.Prelude.{◌≡◌, Option, None, Some, codes, false, option_map, refl}
 use Rattle.std.specs.declared.alloc.Global.{Global}
 use Rattle.std.specs.declared.rc.RcStr.{RcStr}
@@ -15,11 +16,11 @@ use Rattle.rhai_leaves.specs.Leaves.{name_view}
 abbrev pub catch_view : Option (RcStr Global × Position) → Option (Text × Position)
 catch_view = option_map name_view
 
--- the frame of the block of a `for` inside this one: its variable, and its counter, if it has one
+-- this frame where what is live in the block of a `for` is: the counter, if it has one, and the variable
 abbrev pub in_loop : (names : Text × Option Text) → FrameValue → FrameValue
 in_loop names frame = record frame { live = loop_live names.0 names.1 frame.live }
 
--- the frame of the block of a `catch` inside this one: its variable, if it has one
+-- this frame where what is live in the block of a `catch` is: its variable, if it has one
 abbrev pub in_catch : (name : Option (Text × Position)) → FrameValue → FrameValue
 in_catch name frame = record frame { live = catch_live (caught_name name) frame.live }
 
