@@ -75,14 +75,14 @@ abbrev pub import_of : Context → Live → Position → Production (node.Statem
 import_of context live at = part (goal.Expression context live) (λ x. part goal.Alias (λ other.
     give (import_tree x other at, imported other live)))
 
--- a definition that is exported, one level deeper; or a name that is, with another name for it
+-- a definition that is exported, one level deeper; or a name that is, with another name for it, or with the empty one
 --     export = "export" ( definition | NAME [ "as" NAME ] )
 abbrev pub export_by : Context → Live → Position → Option Bool → Production (node.Statement × Live)
 export_by context live at (Some constant) = raise context at (λ deeper. this (λ _ pos.
     part (goal.Definition deeper live pos constant true) give))
 export_by context live at None = name (λ n n_at. part goal.Alias (λ other. give (
   export_tree n other at,
-  exported n (unwrap_or other n) live,
+  exported n (unwrap_or other []) live,
 )))
 
 -- `fn` and a function, after `private`

@@ -50,7 +50,7 @@ export c w at pos None = λ l p q. (
   aliases,
   λ m n e. (
     ap (λ o. statement_shape (export_tree (text_of l) o nowhere)) e,
-    ap (λ o. exported (text_of l) (unwrap_or o (text_of l)) w) e,
+    ap (λ o. exported (text_of l) (unwrap_or o []) w) e,
   ),
 )
 

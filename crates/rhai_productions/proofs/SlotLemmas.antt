@@ -195,7 +195,7 @@ Right _ x = Unit {0}
 export : (c : Context) (w : Live) (at : Position) (v : Option Bool)
     → Always Right (λ f. Kept w f.1) (P.export_by c w at v)
 export c w at (Some constant) = λ l pos f h. h
-export c w at None = λ l p other h. kept_exported (text_of l) (unwrap_or other (text_of l)) w
+export c w at None = λ l p other h. kept_exported (text_of l) (unwrap_or other []) w
 
 documented : (c : Context) (w : Live) (comments : List Comment) (at : Position) (v : StatementStart)
     → Always Right (λ f. Kept w f.1) (P.documented_by c w comments at v)

@@ -68,7 +68,7 @@ import_on live at x other = Ret (import_tree x other at, imported other live)
 
 -- after an exported name
 abbrev pub export_on : Live → Position → Text → Option Text → Prog (node.Statement × Live)
-export_on live at name other = Ret (export_tree name other at, exported name (unwrap_or other name) live)
+export_on live at name other = Ret (export_tree name other at, exported name (unwrap_or other []) live)
 
 -- after `export`: a definition, whose token is at a position, or a name
 abbrev pub export_at : Context → Live → Position → Position → Option Bool → Prog (node.Statement × Live)

@@ -6,10 +6,10 @@ ghost use Rattle.std.specs.Int.NonZero.{non_zero_usize_get};
 ghost use Rattle.std.specs.Rc.{rc_str_bytes};
 ghost use Rattle.rhai_lower.specs.Lexemes.{lexeme};
 ghost use Rattle.rhai_lower.specs.Nodes.{absent, assignment, block_statement, block_value, braces, break_loop};
-ghost use Rattle.rhai_lower.specs.Nodes.{expression, made_block, return_statement, var_statement};
+ghost use Rattle.rhai_lower.specs.Nodes.{export_statement, expression, made_block, return_statement, var_statement};
 ghost use Rattle.rhai_lower.specs.View.{block_view, statement_view, statement_views, view};
 ghost use Rattle.rhai_grammar.specs.Targets.{update_of};
-ghost use Rattle.rhai_grammar.specs.Trees.{export_tree, import_tree, with_kept};
+ghost use Rattle.rhai_grammar.specs.Trees.{import_tree, with_kept};
 ghost use Rattle.rhai_grammar.specs.Trees as tree;
 ghost use Rattle.rhai_trees.specs.Statements.{boxed_view, is_empty, optional_view};
 
@@ -104,8 +104,8 @@ pub fn make_definition(
     })
 }
 
-// A name that may be absent; an absent one is empty.
-fn name_or_empty(alloc: Global, name: Option<RcStr>) -> Result<RcStr, AllocError>
+/// A name that may be absent: without one the empty text. Returns `AllocError` if memory runs out.
+pub fn name_or_empty(alloc: Global, name: Option<RcStr>) -> Result<RcStr, AllocError>
     ensures { IfOk result (λ t. rc_str_bytes t ≡ unwrap_or (option_map rc_str_bytes name) []) }
 {
     match name {
@@ -132,19 +132,12 @@ pub fn make_import(
     })
 }
 
-/// An `export` at `pos` of the variable `name`, under another name, if it has one. Returns `AllocError` if memory runs
-/// out.
-pub fn make_export(
-    alloc: Global,
-    name: RcStr,
-    alias: Option<RcStr>,
-    pos: Position,
-) -> Result<Stmt, AllocError>
-    ensures { IfOk result (λ s. statement_view s
-        ≡ export_tree (rc_str_bytes name) (option_map rc_str_bytes alias) pos) }
+/// An `export` at `pos` of the variable `name`, under the name `alias`, which is empty if none is written. Does not
+/// allocate.
+pub fn make_export(name: RcStr, alias: RcStr, pos: Position) -> Stmt
+    ensures { statement_view result ≡ export_statement (rc_str_bytes name) (rc_str_bytes alias) pos }
 {
-    let alias = name_or_empty(alloc, alias)?;
-    Ok(Stmt::Export { name, alias, pos })
+    Stmt::Export { name, alias, pos }
 }
 
 /// Statements in braces, which are at these positions. Does not allocate.

@@ -1,6 +1,6 @@
 //! Definitions and exports of names. The readers of statements ask for them.
 
-ghost use Rattle.std.specs.Prelude.{◌≡◌, IfOk, OnOk, option_map, unwrap_or};
+ghost use Rattle.std.specs.Prelude.{◌≡◌, [], IfOk, OnOk, option_map, unwrap_or};
 ghost use Rattle.std.specs.Int.NonZero.{non_zero_usize_get};
 ghost use Rattle.std.specs.Rc.{rc_str_bytes};
 ghost use Rattle.rhai_lower.specs.Nodes.{variable};
@@ -11,7 +11,7 @@ ghost use Rattle.rhai_base.specs.Frames.{SameSurroundings};
 
 use rhai_base::Frame;
 use rhai_lower::{Position, Stmt};
-use rhai_trees::statement::make_export;
+use rhai_trees::statement::{make_export, name_or_empty};
 use std::alloc::{AllocError, Global};
 use std::num::NonZeroUsize;
 use std::rc::RcStr;
@@ -37,7 +37,8 @@ pub(crate) fn define_as(
     Ok(number)
 }
 
-/// The `export` at `pos` of a variable, under its own name or under `alias`: its slot is exported, if it has one.
+/// The `export` at `pos` of a variable, under the name `alias`, or the empty one if there is none: its slot is exported
+/// so, if it has one.
 ///
 /// The error is that there is no memory for it.
 pub(crate) fn export_name(
@@ -50,12 +51,10 @@ pub(crate) fn export_name(
     ensures statement { IfOk result (λ s. statement_view s
         ≡ export_tree (rc_str_bytes name) (option_map rc_str_bytes alias) pos) }
     ensures ok { OnOk result (frame.new.live ≡ exported (rc_str_bytes name)
-        (unwrap_or (option_map rc_str_bytes alias) (rc_str_bytes name)) frame.old.live) }
+        (unwrap_or (option_map rc_str_bytes alias) []) frame.old.live) }
     ensures place { SameSurroundings frame.old frame.new }
 {
-    match &alias {
-        Some(alias) => frame.export(&name, alias)?,
-        None => frame.export(&name, &name)?,
-    }
-    make_export(alloc, name, alias, pos)
+    let alias = name_or_empty(alloc, alias)?;
+    frame.export(&name, &alias)?;
+    Ok(make_export(name, alias, pos))
 }
