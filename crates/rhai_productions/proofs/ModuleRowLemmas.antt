@@ -2,7 +2,7 @@
 use Rattle.std.proofs.Common.{refl}
 use Rattle.rhai_grammar.specs.Prelude.{module_number, number, one_more}
 use Rattle.rhai_productions.proofs.Evaluation.{fits}
-use Rattle.rhai_productions.specs.RowsOfModules.{ExportedRow, TwiceRow}
+use Rattle.rhai_productions.specs.RowsOfModules.{ExportedRow, NamedRow, TwiceRow}
 
 pub twice_row : TwiceRow
 unfolding one_more number module_number
@@ -11,3 +11,7 @@ twice_row = record { tree_is = refl; fits = fits (assumption) refl; imports_are 
 pub exported_row : ExportedRow
 unfolding one_more number module_number
 exported_row = record { tree_is = refl; fits = fits (assumption) refl; live_is = refl }
+
+pub named_row : NamedRow
+unfolding one_more number module_number
+named_row = record { tree_is = refl; fits = fits (assumption) refl; live_is = refl }

@@ -12,8 +12,8 @@ use Rattle.rhai_grammar.specs.Promises.{Written, tree_of}
 use Rattle.rhai_productions.specs.WorkedForms.{alone, quoted}
 use Rattle.rhai_productions.specs.WorkedLists.{path_called}
 use Rattle.rhai_productions.specs.WorkedRows.{Fits, script}
-use Rattle.rhai_productions.specs.WorkedStatements.{bare, evaluates, exports, first_of, imports, last_before, lets}
-use Rattle.rhai_productions.specs.WorkedStatements.{semicolon_then, written_as}
+use Rattle.rhai_productions.specs.WorkedStatements.{bare, evaluates, exports, exports_name, first_of, imports}
+use Rattle.rhai_productions.specs.WorkedStatements.{last_before, lets, semicolon_then, written_as}
 use Rattle.rhai_productions.specs.WorkedTokens.{as_word, end_mark, semicolon}
 
 -- ---- two imports of one name
@@ -100,3 +100,27 @@ pub record ExportedRow : Type 0 where
   pub live_is : (tree_of (script on_global_level) exported_form).1.slots
       ≡ record { name = codes "x"; constant = false; aliases = codes "x" ∷ [] } ∷ fresh_slot (codes "y") false
       ∷ fresh_slot (codes "x") false ∷ []
+
+-- `let x; export x`
+abbrev pub named_tokens : List (Lexeme × ℕ)
+named_tokens =
+    declared_tokens 1 (codes "x") 5 ++ ((Sign token.SemiColon, 6) ∷ (Sign token.Export, 8)
+    ∷ (Name (codes "x"), 15) ∷ [])
+
+abbrev pub named_form : Written (script on_global_level)
+named_form =
+    written_as (
+    first_of (lets 1 (bare (codes "x") 5)) tt (semicolon_then 6 (
+    first_of (exports_name 8 (codes "x") 15) tt (last_before 16))))
+
+abbrev pub named_tree : node.Statements
+named_tree =
+    node.one_statement (declared 1 (codes "x") None false) (
+    node.one_statement (node.export_statement (codes "x") [] (place 1 8)) node.no_statements)
+
+-- The alias of a variable that is exported without one is empty, in the tree as in its slot.
+pub record NamedRow : Type 0 where
+  pub tree_is : (tree_of (script on_global_level) named_form).0 ≡ named_tree
+  pub fits : Fits (script on_global_level) named_form (unread named_tokens 16) (between named_tokens [] 16)
+  pub live_is : (tree_of (script on_global_level) named_form).1.slots
+      ≡ record { name = codes "x"; constant = false; aliases = [] ∷ [] } ∷ []

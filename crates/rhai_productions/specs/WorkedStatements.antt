@@ -1,11 +1,12 @@
 -- Parts of written forms that worked rows have in common: statements, blocks and functions. Each token is on the first
 -- line, at its column. Where a test of tokens or settings has to hold, `tt` says so: it is evaluated.
-use Rattle.std.specs.Prelude.{Bool, Option, Some, ℕ, false, if◌then◌else◌, not, true}
+use Rattle.std.specs.Prelude.{Bool, None, Option, Some, ℕ, [], false, if◌then◌else◌, not, true}
 use Rattle.rhai_lower.specs.Nodes as node
 use Rattle.rhai_lower.specs.declared.token.Token.TheVariants as token
 use Rattle.rhai_grammar.specs.Prelude.{Context, Live, Name, Node, Position, Sign, Text, absent, allows_looping}
 use Rattle.rhai_grammar.specs.Prelude.{below_global, block_statement, block_value, braces, defined_as, definition_tree}
-use Rattle.rhai_grammar.specs.Prelude.{ends_itself, expression, has_single_blocks, import_tree, imported, in_block}
+use Rattle.rhai_grammar.specs.Prelude.{ends_itself, export_tree, exported, expression, has_single_blocks}
+use Rattle.rhai_grammar.specs.Prelude.{import_tree, imported, in_block}
 use Rattle.rhai_grammar.specs.Prelude.{level_up, may_be_value, nowhere, place, present, return_statement}
 use Rattle.rhai_grammar.specs.Prelude.{statement_start, unit, with_kept}
 use Rattle.rhai_grammar.specs.Statements.{statement_role}
@@ -102,6 +103,14 @@ exports at keyword f =
     form (choose (Sign token.Export) (place 1 at) (this (Sign token.Export) (place 1 at) (must (must (part _ (form (
     choose (Sign token.Let) (place 1 keyword) (must (this (Sign token.Let) (place 1 keyword) (
     part _ f given))))) given)))))
+
+-- an export of a variable, without another name
+abbrev pub exports_name : {c : Context} {w : Live} (at : ℕ) (name : Text) (column : ℕ)
+    → Form production (Statement c w) (export_tree name None (place 1 at), exported name [] w)
+exports_name at name column =
+    form (choose (Sign token.Export) (place 1 at) (this (Sign token.Export) (place 1 at) (must (must (part _ (form (
+    choose (Name name) (place 1 column) (
+    take (Name name) (place 1 column) (part _ (form (if_not given)) given)))) given)))))
 
 -- an import under another name
 abbrev pub imports : {c : Context} {w : Live} {x : Node} (at : ℕ)

@@ -6,7 +6,7 @@ ghost use Rattle.rhai_productions.specs.RowsOfClosures.{ClosureSumRow, FunctionN
 ghost use Rattle.rhai_productions.specs.RowsOfConstructs.{ArmRow, BreakRow, DefaultRow, IntegerRow, LoopRow, PipeRow};
 ghost use Rattle.rhai_productions.specs.RowsOfFunctions.{CommentRow, FunctionRow};
 ghost use Rattle.rhai_productions.specs.RowsOfLists.{CallRow, SizedRow};
-ghost use Rattle.rhai_productions.specs.RowsOfModules.{ExportedRow, TwiceRow};
+ghost use Rattle.rhai_productions.specs.RowsOfModules.{ExportedRow, NamedRow, TwiceRow};
 ghost use Rattle.rhai_productions.specs.RowsOfRanges.{EndedRow, MinusRow, OpenRow, RangedRow};
 ghost use Rattle.rhai_productions.specs.RowsOfStatements.{AgainRow, ConstantRow, LetRow, OpenBlockRow, ScopesRow};
 ghost use Rattle.rhai_productions.specs.RowsOfStatements.{SingleRow};
@@ -209,6 +209,12 @@ pub fn twice_row()
 #[tactic(auto, using(crate::proofs::ModuleRowLemmas::exported_row))]
 pub fn exported_row()
     ensures { ExportedRow }
+{}
+
+/// In `let x; export x` the variable's slot gets an empty alias.
+#[tactic(auto, using(crate::proofs::ModuleRowLemmas::named_row))]
+pub fn named_row()
+    ensures { NamedRow }
 {}
 
 /// `fn f(a) { a }` gives a function of one parameter, to which its body refers by number 1. After a function of that
