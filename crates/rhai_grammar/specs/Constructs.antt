@@ -1,21 +1,16 @@
 -- Constructs: where each is allowed, and what is refused inside them.
-use Rattle.std.specs.Prelude.{◌≡◌, Bool, true, false, Option, Some, None, codes, if◌then◌else◌, pos, refl}
+use Rattle.std.specs.Prelude.{◌≡◌, Bool, true, false, Option, Some, None, codes, pos, refl}
 use Rattle.rhai_lower.specs.Texts.{Text}
 use Rattle.rhai_lower.specs.Positions.{place}
 use Rattle.rhai_lower.specs.Lexemes.{Lexeme, Sign}
 use Rattle.rhai_lower.specs.Nodes.{Node, integer, start_of}
 use Rattle.rhai_lower.specs.declared.token.Token.{Token}
 use Rattle.rhai_lower.specs.declared.token.Token.TheVariants as token
-use Rattle.rhai_grammar.specs.Beginnings.{missing}
 use Rattle.rhai_grammar.specs.Causes as cause
 use Rattle.rhai_grammar.specs.Causes.{Cause, Refusal, refusal}
 use Rattle.rhai_grammar.specs.Contexts.{Context, allows_looping, has_block_values, has_if_values, has_loop_values}
 use Rattle.rhai_grammar.specs.Contexts.{has_switch_values}
-use Rattle.rhai_grammar.specs.Demands.{Verdict, Fine, Wrong, Otherwise}
-use Rattle.rhai_grammar.specs.DueTokens.{is_due}
 use Rattle.rhai_grammar.specs.Kinds.{not_boolean, not_iterable}
-use Rattle.rhai_grammar.specs.declared.due.DueToken.{DueToken}
-use Rattle.rhai_grammar.specs.declared.due.DueToken.TheVariants as due
 use Rattle.rhai_grammar.specs.declared.role.Construct.{Construct}
 use Rattle.rhai_grammar.specs.declared.role.Construct.TheVariants as construct
 
@@ -39,16 +34,9 @@ may_be_value context construct.Do = has_loop_values context
 may_be_value context construct.For = has_loop_values context
 may_be_value context _ = false
 
--- where this token may not stand, for this cause
-abbrev pub refused_there : DueToken → Cause → Lexeme → Verdict
-refused_there unwanted why token = if is_due unwanted token then Wrong why else Fine
-
 -- A guard does not begin with `{`; nor does what `for` goes over.
 abbrev pub guard_expected : Cause
 guard_expected = cause.ExprExpected (codes "a boolean")
-
-abbrev pub guard_begins : Lexeme → Verdict
-guard_begins token = refused_there due.LeftBrace guard_expected token
 
 -- A guard is not assigned to.
 abbrev pub no_assignment : Cause
@@ -79,17 +67,8 @@ abbrev pub do_end : Lexeme → Option Bool
 do_end (Sign t) = sign_ends_do t
 do_end _ = None
 
-abbrev pub do_ends_by : Lexeme → Option Bool → Verdict
-do_ends_by token None = Wrong (missing (codes "while") token)
-do_ends_by token (Some negated) = Otherwise
-
-abbrev pub do_end_due : Lexeme → Verdict
-do_end_due token = do_ends_by token (do_end token)
-
--- A number is no guard; `until` ends a `do`, and another token is a missing `while`.
+-- A number is no guard; `until` ends a `do` and negates its guard, and `{` does not end it.
 example : (guard_fault (integer (pos 1) (place 1 4))
     ≡ Some (refusal (cause.MismatchedType (codes "a boolean expression") (codes "a number")) (place 1 4)))
-    × (do_end_due (Sign token.Until) ≡ Otherwise)
-    × (do_end_due (Sign token.LeftBrace) ≡ Wrong (cause.MissingToken (codes "while")))
-    × (guard_begins (Sign token.LeftBrace) ≡ Wrong guard_expected)
-example = (refl, refl, refl, refl)
+    × (do_end (Sign token.Until) ≡ Some true) × (do_end (Sign token.LeftBrace) ≡ None)
+example = (refl, refl, refl)

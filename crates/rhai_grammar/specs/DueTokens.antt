@@ -12,25 +12,6 @@ use Rattle.rhai_grammar.specs.declared.due.DueToken.TheVariants.{LeftParen, Righ
 use Rattle.rhai_grammar.specs.declared.due.DueToken.TheVariants.{RightBrace, Comma, Equals, Pipe, DoubleArrow, In}
 use Rattle.rhai_grammar.specs.declared.due.DueToken.TheVariants.{As, Catch, Else, Fn, If, Period}
 
-abbrev pub token_of : DueToken → Token
-token_of LeftParen = token.LeftParen
-token_of RightParen = token.RightParen
-token_of RightBracket = token.RightBracket
-token_of Colon = token.Colon
-token_of LeftBrace = token.LeftBrace
-token_of RightBrace = token.RightBrace
-token_of Comma = token.Comma
-token_of Equals = token.Equals
-token_of Pipe = token.Pipe
-token_of DoubleArrow = token.DoubleArrow
-token_of In = token.In
-token_of If = token.If
-token_of Else = token.Else
-token_of Catch = token.Catch
-token_of As = token.As
-token_of Fn = token.Fn
-token_of Period = token.Period
-
 -- how it is written
 abbrev pub text_of_due : DueToken → Text
 text_of_due LeftParen = codes "("

@@ -14,7 +14,7 @@ unfoldable pub use Rattle.rhai_grammar.specs.Closures.{last_hex_digits}
 pub use Rattle.rhai_grammar.specs.CommaLists.{after_part, is_close, no_argument, not_after}
 pub use Rattle.rhai_grammar.specs.Comments.{Comment}
 unfoldable pub use Rattle.rhai_grammar.specs.Comments.{kept_after, kept_comments}
-pub use Rattle.rhai_grammar.specs.Constructs.{do_end, do_end_due, guard_begins}
+pub use Rattle.rhai_grammar.specs.Constructs.{do_end}
 pub use Rattle.rhai_grammar.specs.Constructs.{guard_expected, guard_fault, iterated_fault, may_be_value}
 pub use Rattle.rhai_grammar.specs.Constructs.{may_stand, no_assignment}
 pub use Rattle.rhai_grammar.specs.Contexts.{Context, Live, allows_looping, below_global, full, may_raise}
@@ -38,7 +38,7 @@ pub use Rattle.rhai_grammar.specs.Functions.{parameter_role, parameters_live}
 unfoldable pub use Rattle.rhai_grammar.specs.Functions.{names_function}
 pub use Rattle.rhai_grammar.specs.Imports.{is_among}
 unfoldable pub use Rattle.rhai_grammar.specs.Imports.{module_number}
-pub use Rattle.rhai_grammar.specs.Interpolations.{added_text, is_last_text, is_text, text_due, with_text}
+pub use Rattle.rhai_grammar.specs.Interpolations.{added_text, is_last_text, is_text}
 pub use Rattle.rhai_grammar.specs.Keys.{is_closure}
 pub use Rattle.rhai_grammar.specs.Laws.{IsFair, is_refused}
 pub use Rattle.rhai_grammar.specs.Libraries.{Ended, Library, closure_count, is_function, keys_in, with_ended}
@@ -62,7 +62,7 @@ pub use Rattle.rhai_grammar.specs.Spots.{spot_after_bracket}
 pub use Rattle.rhai_grammar.specs.Spots.{spot_after_dot, spot_after_operand}
 pub use Rattle.rhai_grammar.specs.Starts.{begins, may_be_closure}
 pub use Rattle.rhai_grammar.specs.Starts.{operand_start, role_after, starts}
-pub use Rattle.rhai_grammar.specs.Statements.{defines, ends_itself, is_comment, name_due, no_variable}
+pub use Rattle.rhai_grammar.specs.Statements.{defines, ends_itself, is_comment, no_variable}
 pub use Rattle.rhai_grammar.specs.Statements.{statement_start, token_after_statement}
 pub use Rattle.rhai_grammar.specs.Strengths.{Follower, Operator, Other, Unknown, follower_of, is_operator, is_right}
 pub use Rattle.rhai_grammar.specs.Strengths.{right_of, strength}

@@ -7,10 +7,10 @@ use Rattle.rhai_grammar.specs.Beginnings.{is_list, AMember, MemberRole, NoMember
 use Rattle.rhai_grammar.specs.Contexts.{Context, Live}
 use Rattle.rhai_grammar.specs.Chains.{Link, index_refusal, last_fault}
 use Rattle.rhai_grammar.specs.Spots.{LinkSpot, spot_after_bracket, spot_after_dot}
-use Rattle.rhai_grammar.specs.Causes.{Refusal, refusal}
+use Rattle.rhai_grammar.specs.Causes.{refusal}
 use Rattle.rhai_grammar.specs.Trees.{bracket_link, call_tree, is_variable, member_link, method_tree}
 use Rattle.rhai_grammar.specs.Modules.{is_qualified, module_fault, qualified}
-use Rattle.rhai_grammar.specs.Verdicts.{no_path}
+use Rattle.rhai_grammar.specs.Verdicts.{bang_fault, no_path}
 use Rattle.rhai_grammar.specs.declared.role.Calling.{Calling}
 use Rattle.rhai_grammar.specs.declared.role.Linking.{Linking}
 use Rattle.rhai_grammar.specs.Productions.{Production, choose, due, faultless, give, if_next, name, never, part, raise}
@@ -25,11 +25,6 @@ use Rattle.rhai_grammar.specs.Views as view
 -- arguments in parentheses, after a name at this position
 abbrev pub listed : Context → Live → Position → Bool → Production (Bool × Nodes)
 listed context live name bang = this (λ _ at. part (goal.Arguments context live name) (λ ns. give (bang, ns)))
-
--- The `!` after a path is refused, in one way where a list follows and in another where none does.
-abbrev pub bang_fault : Bool → Position → Refusal
-bang_fault listed bang = refusal (cause.BadInput (if listed then cause.UnexpectedInput (codes "!")
-    else cause.ImproperSymbol (codes "!"))) bang
 
 -- what follows a `!` after a name: an empty pair, or a list of arguments
 abbrev pub bang_by : Context → Live → Position → Calling → Production (Bool × Nodes)

@@ -6,7 +6,6 @@ use Rattle.rhai_lower.specs.Nodes as node
 use Rattle.rhai_lower.specs.Nodes.{Arms, Block, Called, Cases, Named, Node, Nodes, Optional, Properties, Statement}
 use Rattle.rhai_lower.specs.Nodes.{Statements}
 use Rattle.rhai_lower.specs.declared.position.Position.{Position}
-use Rattle.rhai_grammar.specs.Uses.{Use}
 
 -- ---- trees
 
@@ -92,7 +91,3 @@ abbrev mutual
   pub cases_shape : Cases → Cases
   cases_shape node.no_cases = node.no_cases
   cases_shape (node.one_case v arms cases) = node.one_case (node_shape v) arms (cases_shape cases)
-
-abbrev pub captured_shape : List Use → List Use
-captured_shape [] = []
-captured_shape (u ∷ captured) = record { name = u.name; at = nowhere } ∷ captured_shape captured

@@ -1,20 +1,15 @@
--- What a token does where a statement begins, in a definition, and after a statement. Some tokens are refused there.
-use Rattle.std.specs.Prelude.{◌≡◌, Bool, true, false, Option, Some, None, codes}
-use Rattle.std.specs.Prelude.{if◌then◌else◌, refl}
+-- What a token does where a statement begins, in a definition, and after a statement.
+use Rattle.std.specs.Prelude.{◌≡◌, Bool, true, false, Option, Some, None, if◌then◌else◌, refl}
 use Rattle.rhai_grammar.specs.Constructs.{may_stand}
 use Rattle.rhai_grammar.specs.Contexts.{Context, allows_looping}
 use Rattle.rhai_grammar.specs.declared.role.Construct.TheVariants as construct
 use Rattle.rhai_lower.specs.Names.{is_identifier}
-use Rattle.rhai_lower.specs.Positions.{place}
-use Rattle.rhai_lower.specs.Lexemes.{Lexeme, Comment, Faulty, Name, Reserved, Sign}
+use Rattle.rhai_lower.specs.Lexemes.{Lexeme, Comment, Faulty, Reserved, Sign}
 use Rattle.rhai_lower.specs.Nodes as node
-use Rattle.rhai_lower.specs.declared.position.Position.{Position}
 use Rattle.rhai_lower.specs.declared.token.Token.{Token}
 use Rattle.rhai_lower.specs.declared.token.Token.TheVariants as token
 use Rattle.rhai_grammar.specs.Causes as cause
-use Rattle.rhai_grammar.specs.Causes.{Cause, refusal}
-use Rattle.rhai_grammar.specs.Beginnings.{missing}
-use Rattle.rhai_grammar.specs.Demands.{Verdict, Fine, Wrong, Blames, Otherwise}
+use Rattle.rhai_grammar.specs.Causes.{Cause}
 use Rattle.rhai_grammar.specs.declared.role.AfterStatement.{AfterStatement}
 use Rattle.rhai_grammar.specs.declared.role.AfterStatement.TheVariants as after
 use Rattle.rhai_grammar.specs.declared.role.Closing.{Closing}
@@ -123,47 +118,11 @@ no_variable (Faulty f) = cause.BadInput (cause.Lexer f)
 no_variable (Reserved t) = if is_identifier t then cause.Reserved t else cause.VariableExpected
 no_variable l = cause.VariableExpected
 
--- ---- which tokens are refused
-
--- where a list of statements may end
-abbrev pub list_ends_at : Lexeme → StatementRole → Verdict
-list_ends_at token place.Close = Fine
-list_ends_at token place.Statement = Otherwise
-list_ends_at token place.Nothing = Wrong (missing (codes "}") token)
-
-abbrev pub list_ends : Closing → Lexeme → Verdict
-list_ends closing token = list_ends_at token (statement_role closing token)
-
--- after such a statement without a `;`: what closes the list
-abbrev pub last_at : Lexeme → AfterStatement → Verdict
-last_at token after.Close = Fine
-last_at token after.SemiColon = Otherwise
-last_at token after.Nothing = Wrong (missing (codes ";") token)
-
-abbrev pub closed_due : Closing → Lexeme → Verdict
-closed_due closing token = last_at token (token_after_statement closing token)
-
--- after the doc comments of a function, of which the first one is at a position: a further one, or the function
-abbrev pub function_follows : (first : Position) → StatementStart → Verdict
-function_follows first start.Comment = Otherwise
-function_follows first start.Function = Otherwise
-function_follows first start.Private = Otherwise
-function_follows first _ = Blames (refusal cause.WrongDocComment first)
-
-abbrev pub after_comment : Context → (first : Position) → Lexeme → Verdict
-after_comment context first token = function_follows first (statement_start context token)
-
--- the name of a definition
-abbrev pub name_due : Lexeme → Verdict
-name_due (Name t) = Otherwise
-name_due token = Wrong (no_variable token)
-
--- In a block, `}` closes the list of statements and the end mark is refused; in a script, the end mark closes it. After
--- a doc comment, the end mark makes that one wrong.
-example : (list_ends Brace (Sign token.RightBrace) ≡ Fine) × (list_ends EndMark (Sign token.EOF) ≡ Fine)
-    × (list_ends Brace (Sign token.EOF) ≡ Wrong (cause.MissingToken (codes "}")))
-    × (closed_due Brace (Sign token.EOF) ≡ Wrong (cause.MissingToken (codes ";")))
-    × (name_due (Sign token.Let) ≡ Wrong cause.VariableExpected)
-    × ((context : Context) → after_comment context (place 1 1) (Sign token.EOF)
-    ≡ Blames (refusal cause.WrongDocComment (place 1 1)))
-example = (refl, refl, refl, refl, refl, λ context. refl)
+-- In a block, `}` closes the list of statements, and the end mark is no statement; in a script, the end mark closes it.
+-- After a statement of a block, the end mark neither goes on nor closes. A keyword is no variable.
+example : (statement_role Brace (Sign token.RightBrace) ≡ place.Close)
+    × (statement_role Brace (Sign token.EOF) ≡ place.Nothing)
+    × (statement_role EndMark (Sign token.EOF) ≡ place.Close)
+    × (token_after_statement Brace (Sign token.EOF) ≡ after.Nothing)
+    × (no_variable (Sign token.Let) ≡ cause.VariableExpected)
+example = (refl, refl, refl, refl, refl)

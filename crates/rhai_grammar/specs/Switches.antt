@@ -16,12 +16,8 @@ use Rattle.rhai_grammar.specs.CaseValues.{IntegerRange, example_number, example_
 use Rattle.rhai_grammar.specs.CaseValues.{is_literal_value, same_value}
 use Rattle.rhai_grammar.specs.Causes as cause
 use Rattle.rhai_grammar.specs.Causes.{Refusal, refusal}
-use Rattle.rhai_grammar.specs.CommaLists.{after_part, not_after}
-use Rattle.rhai_grammar.specs.Demands.{Verdict, Fine, Wrong, Otherwise}
+use Rattle.rhai_grammar.specs.Demands.{Verdict, Fine, Wrong}
 use Rattle.rhai_grammar.specs.Statements.{ends_itself}
-use Rattle.rhai_grammar.specs.declared.list.AfterPart.{AfterPart}
-use Rattle.rhai_grammar.specs.declared.list.AfterPart.TheVariants as after
-use Rattle.rhai_grammar.specs.declared.list.CommaList.TheVariants as lists
 use Rattle.rhai_grammar.specs.declared.role.ArmRole.{ArmRole}
 use Rattle.rhai_grammar.specs.declared.role.ArmRole.TheVariants as arm
 
@@ -49,15 +45,6 @@ action_due _ = Fine
 abbrev pub ends_arm : node.Statement → Bool
 ends_arm (node.noop p) = false
 ends_arm f = ends_itself f
-
--- after an arm without a comma: the `}`, or anything, if the arm needs no comma
-abbrev pub arm_ends_at : (itself : Bool) → Lexeme → AfterPart → Verdict
-arm_ends_at itself token after.Comma = Otherwise
-arm_ends_at itself token after.Close = Fine
-arm_ends_at itself token after.Nothing = if itself then Fine else Wrong (not_after lists.Arms token)
-
-abbrev pub arm_ends : (itself : Bool) → Lexeme → Verdict
-arm_ends itself token = arm_ends_at itself token (after_part lists.Arms token)
 
 -- ---- what the arms give
 
@@ -164,12 +151,11 @@ example_before =
 abbrev example_after : Collected
 example_after = with_arm_collected example_before (one_node (example_text 2) no_nodes) no_guard (example_number (pos 2))
 
--- The text leads to both arms, the range to the first; after it an integer is refused.
+-- The text leads to both arms, the range to the first; after it an integer is refused. The end mark is no action.
 example : (example_after.cases
     ≡ node.one_case example_first (0 ∷ []) (node.one_case (example_text 1) (0 ∷ 1 ∷ []) node.no_cases))
     × (example_after.ranges ≡ record { first = pos 0; last = pos 5; is_inclusive = false; index = 0 } ∷ [])
     × (arm_fault example_after (one_node (example_number (pos 3)) no_nodes)
     ≡ Some (refusal cause.WrongSwitchIntegerCase (place 1 4)))
-    × (arm_ends false (Sign token.EOF) ≡ Wrong (cause.MissingToken (codes "}")))
-    × (arm_ends true (Sign token.Plus) ≡ Fine)
-example = (refl, refl, refl, refl, refl)
+    × (action_due (Sign token.EOF) ≡ Wrong cause.UnexpectedEOF)
+example = (refl, refl, refl, refl)

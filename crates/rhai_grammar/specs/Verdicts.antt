@@ -1,6 +1,5 @@
--- Which tokens are refused in place of a required one, and for which cause.
-use Rattle.std.specs.Prelude.{◌==◌}
-use Rattle.std.specs.Prelude.{codes, if◌then◌else◌}
+-- Verdicts on tokens after operands and where keys begin, and errors of calls and members.
+use Rattle.std.specs.Prelude.{◌==◌, Bool, codes, if◌then◌else◌}
 use Rattle.rhai_lower.specs.Lexemes.{Lexeme}
 use Rattle.rhai_lower.specs.Nodes.{Properties}
 use Rattle.rhai_lower.specs.declared.position.Position.{Position}
@@ -8,46 +7,27 @@ use Rattle.rhai_grammar.specs.Causes as cause
 use Rattle.rhai_grammar.specs.Causes.{Cause, Refusal, refusal}
 use Rattle.rhai_grammar.specs.Settings.{Settings, quoted_keys}
 use Rattle.rhai_grammar.specs.Contexts.{Context, may_raise}
-use Rattle.rhai_grammar.specs.Beginnings.{calling, is_list}
-use Rattle.rhai_grammar.specs.Beginnings.{MemberRole, AMember, NoMember, member_role}
-use Rattle.rhai_grammar.specs.Literals.{KeyRole, NoKey, key_role}
-use Rattle.rhai_grammar.specs.Literals.{property_count}
+use Rattle.rhai_grammar.specs.Literals.{KeyRole, key_role, property_count}
 use Rattle.rhai_grammar.specs.Strengths.{Follower, Operator, Unknown, Other, follower_of}
 use Rattle.rhai_grammar.specs.declared.filter.ExprFilter.{ExprFilter}
 use Rattle.rhai_grammar.specs.Demands.{Verdict, Fine, Wrong, Otherwise}
 
+-- No token is refused.
 abbrev pub anything : Lexeme → Verdict
 anything token = Otherwise
 
--- after a dot
-abbrev pub member_at : MemberRole → Verdict
-member_at AMember = Fine
-member_at (NoMember why) = Wrong why
-
-abbrev pub member_due : Lexeme → Verdict
-member_due token = member_at (member_role token)
-
--- after a property's name: nothing that calls it; and it is not part of a path
+-- the error for a `::` after a property's name, which is not part of a path
 abbrev pub no_path : Cause
 no_path = cause.BadInput (cause.ImproperSymbol (codes "::"))
 
--- after the `!` of a call by a name with a path, which may not have one; the `!` is at a position
-abbrev pub bang_refusal : Position → Lexeme → Refusal
-bang_refusal bang token =
-    refusal (cause.BadInput (if is_list (calling token) then cause.UnexpectedInput (codes "!")
+-- the error for the `!` after a path: unexpected input where arguments follow, otherwise an improper symbol
+abbrev pub bang_fault : (listed : Bool) → Position → Refusal
+bang_fault listed bang = refusal (cause.BadInput (if listed then cause.UnexpectedInput (codes "!")
     else cause.ImproperSymbol (codes "!"))) bang
-
--- where a key of an object map may begin: a key, or the end
-abbrev pub key_at : KeyRole → Verdict
-key_at (NoKey why) = Wrong why
-key_at _ = Otherwise
 
 -- what a token is where one more key may begin, after these properties
 abbrev pub next_key : Settings → Properties → Lexeme → KeyRole
 next_key context before token = key_role (quoted_keys context) (property_count before == 0) token
-
-abbrev pub key_due : Context → Properties → Lexeme → Verdict
-key_due context before token = key_at (next_key context.settings before token)
 
 -- after an operand: no reserved symbol, since that is not an operator
 abbrev pub known_follower : Follower → Verdict

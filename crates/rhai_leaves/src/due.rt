@@ -10,7 +10,7 @@ ghost use Rattle.rhai_grammar.specs.Causes.{refusal_of};
 ghost use Rattle.rhai_grammar.specs.Cursors.{next_item, cursor_of, after_peek};
 ghost use Rattle.rhai_grammar.specs.Delivered.{is_end, is_memory};
 ghost use Rattle.rhai_grammar.specs.DueTokens.{is_due, not_due, text_of_due};
-ghost use Rattle.rhai_grammar.specs.Verdicts.{bang_refusal};
+ghost use Rattle.rhai_grammar.specs.Verdicts.{bang_fault};
 ghost use Rattle.rhai_leaves.specs.DueTokens.{Passes, Tries};
 ghost use Rattle.rhai_leaves.specs.Takes.{Looks, Takes, TakesIf};
 
@@ -167,7 +167,8 @@ pub fn arguments_due(alloc: Global, input: &mut TokenStream) -> ParseResult<Call
 // Why the `!` of a call is refused whose name has a path; the next token, which stays, is behind it.
 fn bang_input(alloc: Global, input: &mut TokenStream) -> Result<InputError, AllocError>
     ensures input { IfOk result (λ e. (is_memory (next_item (cursor_of input.old)).lexeme ≡ false)
-        × (BadInput (input_cause e) ≡ (bang_refusal nowhere (next_item (cursor_of input.old)).lexeme).cause)) }
+        × (BadInput (input_cause e)
+        ≡ (bang_fault (is_list (calling (next_item (cursor_of input.old)).lexeme)) nowhere).cause)) }
     ensures after { cursor_of input.new ≡ after_peek (cursor_of input.old) }
 {
     let (token, _) = peek(input)?;
@@ -186,7 +187,7 @@ fn bang_input(alloc: Global, input: &mut TokenStream) -> Result<InputError, Allo
 pub fn no_bang(alloc: Global, input: &mut TokenStream, bang: Position) -> ParseError
     ensures refused { is_for_memory result ≡ false
         → (is_memory (next_item (cursor_of input.old)).lexeme ≡ false)
-        × (refusal_of result ≡ bang_refusal bang (next_item (cursor_of input.old)).lexeme) }
+        × (refusal_of result ≡ bang_fault (is_list (calling (next_item (cursor_of input.old)).lexeme)) bang) }
     ensures nowhere { MemoryIsNowhere result }
     ensures after { cursor_of input.new ≡ after_peek (cursor_of input.old) }
 {

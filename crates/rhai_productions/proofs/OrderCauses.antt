@@ -1,26 +1,19 @@
 -- No cause in a production says that the key of a closure is there, but where a key is tested.
-use Rattle.std.proofs.Common.{◌≡◌, ℕ, false, Option, Some, None, refl, subst}
+use Rattle.std.proofs.Common.{◌≡◌, ℕ, false, Option, Some, None, refl}
 use Rattle.rhai_lower.specs.Lexemes.{Faulty, Reserved}
-use Rattle.rhai_grammar.specs.Prelude.{Lexeme, Position, Context, Live, Text, text_of, Node, target_fault}
-use Rattle.rhai_grammar.specs.Prelude.{is_constant_use, is_name, guard_fault, iterated_fault, ends_itself, with_kept}
-use Rattle.rhai_grammar.specs.Prelude.{Nodes, Properties, has_single_blocks, may_be_value, module_fault, KeyRole}
-use Rattle.rhai_grammar.specs.Prelude.{FieldsEnd, AKey, NoKey, LinkSpot, index_refusal, last_fault, is_this}
-use Rattle.rhai_grammar.specs.Prelude.{MemberRole, AMember, NoMember, arm_fault, Follower, Operator, Unknown, Other}
-use Rattle.rhai_grammar.specs.Prelude.{may_be_closure, Comment, Collected, Use, Library, Refusal, Ended, member_role}
-use Rattle.rhai_grammar.specs.Prelude.{unexpected, is_end, duplicate_of, is_new, may_begin, names_function, is_closure}
-use Rattle.rhai_grammar.specs.Prelude.{with_ended, closure_count, closure_name, closure_node, ended_closure, made_block}
-use Rattle.rhai_grammar.specs.Prelude.{missing, noop}
+use Rattle.rhai_grammar.specs.Prelude.{Lexeme, Text, text_of}
+use Rattle.rhai_grammar.specs.Prelude.{Refusal}
+use Rattle.rhai_grammar.specs.Prelude.{unexpected, is_end}
+use Rattle.rhai_grammar.specs.Prelude.{missing}
 use Rattle.rhai_grammar.specs.CommaLists.{closing_text}
 use Rattle.rhai_grammar.specs.Functions.{is_keyword, is_reserved_token}
 use Rattle.rhai_grammar.specs.Prelude as G
 use Rattle.rhai_grammar.specs.Causes as cause
 use Rattle.rhai_grammar.specs.Functions as F
 use Rattle.rhai_grammar.specs.Literals as L
-use Rattle.rhai_grammar.specs.Verdicts as V
 use Rattle.rhai_grammar.specs.LibraryLaws.{duplicates_closure}
 use Rattle.rhai_grammar.specs.declared.list.CommaList.{CommaList}
-use Rattle.rhai_grammar.proofs.Duplicates.{either, has_duplicate, is_duplicate}
-use Rattle.rhai_grammar.proofs.SparedTokens.{key_due, member_due}
+use Rattle.rhai_grammar.proofs.Duplicates.{either, has_duplicate}
 use Rattle.rhai_grammar.specs.Productions.{fault_free, fault_of}
 use Rattle.rhai_productions.proofs.Ordering.{Spared, missing_spared, unexpected_spared}
 
@@ -59,10 +52,3 @@ no_body f _ = refl
 pub fault : (f : Option Refusal) → has_duplicate f ≡ false → fault_free f ≡ false → Spared (fault_of f)
 fault None h e = refl
 fault (Some why) h e = h
-
-pub member_spared : (n : Lexeme) (y : MemberRole) → member_role n ≡ y → is_duplicate (V.member_at y) ≡ false
-member_spared n y e = subst (λ y. is_duplicate (V.member_at y) ≡ false) e (member_due n)
-
-pub key_spared : (c : Context) (before : Properties) (n : Lexeme) (y : KeyRole) → V.next_key c.settings before n ≡ y
-    → is_duplicate (V.key_at y) ≡ false
-key_spared c before n y e = subst (λ y. is_duplicate (V.key_at y) ≡ false) e (key_due c before n)

@@ -32,7 +32,8 @@ use Rattle.rhai_grammar.specs.Productions.{Production}
 use Rattle.rhai_grammar.specs.Rules as P
 use Rattle.rhai_grammar.specs.Rules.{production}
 use Rattle.rhai_productions.proofs.Ordering.{Orders, Spared, missing_spared, unexpected_spared}
-use Rattle.rhai_productions.proofs.OrderCauses.{fault, key_spared, member_spared, no_item, no_operand}
+use Rattle.rhai_productions.proofs.OrderCauses.{fault, no_item, no_operand}
+use Rattle.rhai_grammar.proofs.SparedTokens.{key_spared, member_spared}
 
 -- ---- what is known of goals
 
@@ -192,7 +193,7 @@ module _ (limit : ℕ) where
       → OrdersIn b (P.dotted_by w spot t at v) l
   dotted w spot t at AMember n e b l i o =
       (λ e. refl, λ s. (b, o, i, λ x m r o. (b, o, (i, i), λ ls m r o. (tt, o))))
-  dotted w spot t at (NoMember why) n e b l i o = λ m. member_spared n (NoMember why) e
+  dotted w spot t at (NoMember why) n e b l i o = λ m. member_spared n why e
 
   pub links : (w : Live) (spot : LinkSpot) (v : Linking) (b : ℕ) (l : Library) → Fits limit b spot.settings
       → Fits limit b spot.brackets → Kept limit b l → OrdersIn b (P.links_by w spot v) l
@@ -232,7 +233,7 @@ module _ (limit : ℕ) where
       (l : Library) → Kept limit b l → OrdersIn b (P.key_by c before v) l
   key c before FieldsEnd n e b l o = λ n at. (tt, o)
   key c before (AKey k) n e b l o = λ n at. (λ e. refl, λ s. (missing_spared _, λ n p. (λ n. refl, (tt, o))))
-  key c before (NoKey why) n e b l o = λ m. key_spared c before n (NoKey why) e
+  key c before (NoKey why) n e b l o = λ m. key_spared c before n why e
 
   pub field : (c : Context) (w : Live) (opening : Position) (before : Properties) (v : Option (Text × Position)) (b : ℕ)
       (l : Library) → Fits limit b c → Kept limit b l → OrdersIn b (P.field_by c w opening before v) l

@@ -249,7 +249,7 @@ module _ (rule : (g : Goal) → Production (Val g)) where
         → v (op_at s) ≡ (if b then Fine else Wrong (not_due RightBrace (op_at s))) =
         λ b e. ap (λ b. if b then Fine else Wrong (not_due RightBrace (op_at s))) e in
         let brace : is_due RightBrace (op_at s) ≡ true → next_at code s ≡ item (Sign token.RightBrace) (pos_at s) =
-        λ due. stands RightBrace (op_at s) (pos_at s) due in
+        λ due. stands (op_at s) (pos_at s) due in
         let fits : is_due RightBrace (op_at s) ≡ true → Fits v s =
         λ due. fine (ap (λ (i : Item). is_memory i.lexeme) (brace due)) (known true due) in
         let i = text_at s in

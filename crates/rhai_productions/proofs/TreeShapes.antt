@@ -177,36 +177,41 @@ fields_shape (node.one_property t p x ps) = let e = fields_shape ps in cc
 
 -- ---- closures
 
-pub shape_uses : (us vs : List Use) → names_of us ≡ names_of vs → shape.captured_shape us ≡ shape.captured_shape vs
+-- captured names without positions
+abbrev pub captured_shape : List Use → List Use
+captured_shape [] = []
+captured_shape (u ∷ captured) = record { name = u.name; at = nowhere } ∷ captured_shape captured
+
+pub shape_uses : (us vs : List Use) → names_of us ≡ names_of vs → captured_shape us ≡ captured_shape vs
 shape_uses [] [] e = refl
 shape_uses [] (v ∷ vs) e = absurd cc
 shape_uses (u ∷ us) [] e = absurd cc
 shape_uses (u ∷ us) (v ∷ vs) e =
     let a : u.name ≡ v.name = cc in
     let b : names_of us ≡ names_of vs = cc in
-    ap (λ t. record { name = t; at = nowhere } ∷ shape.captured_shape us) a
+    ap (λ t. record { name = t; at = nowhere } ∷ captured_shape us) a
     ∙ ap (λ r. record { name = v.name; at = nowhere } ∷ r) (shape_uses us vs b)
 
-pub use_names : (us : List Use) → names_of (shape.captured_shape us) ≡ names_of us
+pub use_names : (us : List Use) → names_of (captured_shape us) ≡ names_of us
 use_names [] = refl
 use_names (u ∷ us) = let e = use_names us in cc
 
-pub use_count : (us : List Use) → length (shape.captured_shape us) ≡ length us
+pub use_count : (us : List Use) → length (captured_shape us) ≡ length us
 use_count [] = refl
 use_count (u ∷ us) = let e = use_count us in cc
 
 pub use_nodes : (us : List Use) (w : Live) → nodes_shape (captured_nodes w.slots us) ≡ captured_nodes w.slots
-    (shape.captured_shape us)
+    (captured_shape us)
 use_nodes [] w = refl
 use_nodes (u ∷ us) w = let e = use_nodes us w in cc
 
 pub use_shares : (us : List Use) (w : Live) → shape.shared_shape (shared_names w.slots us) ≡ shared_names w.slots
-    (shape.captured_shape us)
+    (captured_shape us)
 use_shares [] w = refl
 use_shares (u ∷ us) w = let e = use_shares us w in cc
 
 pub closure_shape : (at : Position) (n : ℕ) (us : List Use) (names : List Text) (w : Live)
-    → node_shape (closure_node at n us names w) ≡ closure_node nowhere n (shape.captured_shape us) names w
+    → node_shape (closure_node at n us names w) ≡ closure_node nowhere n (captured_shape us) names w
 closure_shape at n [] names w = refl
 closure_shape at n (u ∷ us) names w =
     let a = use_names us in let b = use_count us in let c = use_nodes us w in let d = use_shares us w in cc
@@ -214,5 +219,5 @@ closure_shape at n (u ∷ us) names w =
 pub closure_so : (at pos : Position) (n m : ℕ) (us vs : List Use) (names : List Text) (w : Live) → names_of us
     ≡ names_of vs → n ≡ m → node_shape (closure_node at n us names w) ≡ node_shape (closure_node pos m vs names w)
 closure_so at pos n m us vs names w e d =
-    closure_shape at n us names w ∙ ap (λ i. closure_node nowhere i (shape.captured_shape us) names w) d
+    closure_shape at n us names w ∙ ap (λ i. closure_node nowhere i (captured_shape us) names w) d
     ∙ ap (λ x. closure_node nowhere m x names w) (shape_uses us vs e) ∙ sym (closure_shape pos m vs names w)

@@ -15,7 +15,7 @@ use Rattle.rhai_grammar.specs.Forms.{Filled, Form, choose, form, given, if_not, 
 use Rattle.rhai_grammar.specs.Rules as P
 use Rattle.rhai_grammar.specs.Rules.{production}
 use Rattle.rhai_productions.specs.WorkedForms.{linked, name_before, start, unlinked}
-use Rattle.rhai_productions.specs.WorkedTokens.{After, comma}
+use Rattle.rhai_productions.specs.WorkedTokens.{After}
 
 -- ---- links
 
@@ -93,16 +93,6 @@ abbrev pub item_there : {c : Context} {w : Live} {at : Position} {before ns : No
 item_there item.Item so f = f
 item_there item.End so f = absurd so
 item_there item.Nothing so f = absurd so
-
--- an item of an array with the comma after it, and the items that follow
-abbrev pub element : {c : Context} {w : Live} {at : Position} {before ns : Nodes} {x : Node}
-    (f : Form production (Expression (level_up c) w) x)
-    → IsItem (item_role c.sizes.array (node_count before) (start f).0) → (comma : ℕ)
-    → Form production (goal.Elements c w at (with_node before x)) ns → Form production (goal.Elements c w at before) ns
-element {c} {before = before} f so comma rest =
-    form (choose (start f).0 (start f).1 (item_there (item_role c.sizes.array (node_count before) (start f).0) so (
-    must (part _ f (choose (Sign token.Comma) (place 1 comma) (
-    this (Sign token.Comma) (place 1 comma) (part _ rest given)))))))
 
 -- the last item, before the `]`
 abbrev pub last_element : {c : Context} {w : Live} {at : Position} {before : Nodes} {x : Node}

@@ -7,10 +7,6 @@ pub record Nesting : Type 0 where
   pub active : ℕ
   pub peak : ℕ
 
--- before anything is read
-abbrev pub not_nested : Nesting
-not_nested = record { active = 0; peak = 0 }
-
 -- one more reader is active; saturates, and the peak follows
 abbrev pub entered : Nesting → Nesting
 entered n = record { active = one_more n.active; peak = max n.peak (one_more n.active) }
@@ -23,7 +19,7 @@ abbrev depth : ℕ → ℕ → Nesting
 depth active peak = record { active = active; peak = peak }
 
 -- Two enter, one leaves, and another enters: two are active, and never were more.
-example : (entered (left_one (entered (entered not_nested))) ≡ depth 2 2)
+example : (entered (left_one (entered (entered (depth 0 0)))) ≡ depth 2 2)
     × (entered (depth (2 ^ 64 - 1) 0) ≡ depth (2 ^ 64 - 1) (2 ^ 64 - 1))
 unfolding one_more
 example = (refl, refl)

@@ -19,7 +19,7 @@ use Rattle.rhai_grammar.specs.Prelude.{Library, operand_start, role_after, start
 use Rattle.rhai_grammar.specs.Prelude.{arm_role, signed, sign_holds, malformed, operator_tree, boolean_holds}
 use Rattle.rhai_grammar.specs.Prelude.{mismatched, Follower, Operator, Unknown, Other, follower_of, name_tree}
 use Rattle.rhai_grammar.specs.Prelude.{variable_of, is_variable, node_count, call_tree, bracket_link, definition_tree}
-use Rattle.rhai_grammar.specs.Prelude.{member_link, method_tree, captures_use, may_be_closure}
+use Rattle.rhai_grammar.specs.Prelude.{member_link, method_tree, captures_use, is_list, may_be_closure}
 use Rattle.rhai_lower.specs.Nodes.{if_statement}
 use Rattle.rhai_lower.specs.Nodes as node
 use Rattle.rhai_grammar.specs.Causes as cause
@@ -29,7 +29,7 @@ use Rattle.rhai_grammar.specs.declared.list.CommaList.TheVariants as lists
 use Rattle.rhai_grammar.specs.declared.role.ItemRole.{ItemRole}
 use Rattle.rhai_grammar.specs.declared.role.ItemRole.TheVariants as place
 use Rattle.rhai_grammar.specs.Literals.{no_item, too_many_fields}
-use Rattle.rhai_grammar.specs.Verdicts.{bang_refusal, next_key, no_path}
+use Rattle.rhai_grammar.specs.Verdicts.{bang_fault, next_key, no_path}
 use Rattle.rhai_grammar.specs.declared.role.Beginning.{Beginning}
 use Rattle.rhai_grammar.specs.declared.role.Beginning.TheVariants as begin
 use Rattle.rhai_grammar.specs.declared.role.Calling.{Calling}
@@ -163,7 +163,8 @@ bang_at context live name lexeme at _ = Fail (refusal (missing (codes "(") lexem
 -- after the `!` of a call, which is at a position, and which may not follow a name with a path
 abbrev pub unless_qualified : (qualified : Bool) → Position → Lexeme → Prog (Bool × Nodes)
     → Prog (Bool × Nodes)
-unless_qualified qualified bang lexeme rest = if qualified then Fail (bang_refusal bang lexeme) else rest
+unless_qualified qualified bang lexeme rest =
+    if qualified then Fail (bang_fault (is_list (calling lexeme)) bang) else rest
 
 abbrev pub called_at : Context → Live → Position → (qualified : Bool) → Position → Calling
     → Prog (Bool × Nodes)
