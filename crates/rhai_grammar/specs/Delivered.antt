@@ -81,15 +81,15 @@ past m s = record s {
 abbrev pub adding : Ended → Point → Point
 adding ended s = record s { library = with_ended s.library ended }
 
--- the point with these uses
+-- the point where the closure around has captured these names
 abbrev pub with_captured : List Use → Point → Point
 with_captured uses s = record s { captured = uses }
 
--- the point after one more use, if it is one
+-- the point after this use, by which the closure around captures the name or not
 abbrev pub capturing : Bool → Use → Point → Point
 capturing captures u s = with_captured (noted captures u s.captured) s
 
--- the point where a closure's body begins: nothing was used
+-- the point where a closure's body begins, which has captured nothing
 abbrev pub apart : Point → Point
 apart s = with_captured [] s
 

@@ -106,7 +106,7 @@ module _ (rule : (g : Goal) → Production (Val g)) where
           (v : Val g) → Form g v → FilledIn h (k v) r → FilledIn h (S.literal g is k) r
       literal_here : {h g : Goal} {is : is_counted g ≡ true} {k : Val g → Production (Val h)} → Open g
           → FilledIn h (S.literal g is k) None
-      -- in a closure of its own: so many closures had ended at its end, and these names were used
+      -- in a closure of its own: so many closures had ended at its end, and it captured these names
       apart : {h g : Goal} {k : Val g → List Use → ℕ → Production (Val h)} {r : Option (Val h)} (v : Val g)
           (us : List Use) (n : ℕ) → Form g v → FilledIn h (k v us n) r → FilledIn h (S.apart g k) r
       apart_here : {h g : Goal} {k : Val g → List Use → ℕ → Production (Val h)} → Open g
@@ -168,7 +168,8 @@ module _ (rule : (g : Goal) → Production (Val g)) where
         ▸ Tok text (item (Sign token.EOF) nowhere) text_or ▸ Nothing
 
   abbrev mutual
-    -- how deeply the readers that count are nested for it, as the reading program calls them
+    -- how deeply the readers that count are nested for it at least, as the reading program calls them: the reader of a
+    -- closure's body, which counts, is left out
     pub depth : {g : Goal} {x : Val g} → Form g x → ℕ
     depth (form f) = depth_in f
 

@@ -132,6 +132,6 @@ ended_function comments is_private owner name parameters body = record {
 abbrev pub is_new : Key → Library → Bool
 is_new key library = not (has_key key (keys_in library))
 
--- the error for a function whose key another one has; `at` is its `fn`
+-- the error for a function or closure whose key a function has that ended before; `at` is its `fn`, `|` or `||`
 abbrev pub duplicate_of : Key → (at : Position) → Refusal
 duplicate_of key at = refusal (cause.FnDuplicatedDefinition key.name key.params) at

@@ -97,7 +97,7 @@ pub record IsNamed {F : Type 0} (whole : F → Demands) (before after : Library)
     (start left : Cursor) (e : Refusal) : Type 0
   where
     pub form : F
-    -- the names that were used there
+    -- the names that the closure around had captured there
     pub captured : List Use
     pub missed : Missed (whole form) (start_of before start) e left.mode (record {
       tokens = left.tokens;

@@ -92,7 +92,7 @@ loop_names = if_next (is_due due_token.LeftParen) (this (λ _ at. name (λ n p. 
 --     while = "while" guard block
 --     loop = "loop" block
 --     do = "do" block ( "while" | "until" ) guard
---     for = "for" ( NAME | "(" NAME "," NAME ")" ) "in" guard block
+--     for = "for" ( NAME | "(" NAME "," NAME ")" ) "in" expression block
 --     try = "try" block "catch" [ "(" NAME ")" ] block
 --     switch = "switch" expression "{" { arm [ "," ] } [ "_" "=>" action [ "," ] ] "}"
 abbrev pub construct : Context → Live → Position → Kind → Production node.Statement

@@ -96,8 +96,8 @@ captured (u ∷ us) context live rest = captures (λ fs. may_capture context liv
     (refusal (cause.VariableUndefined u.name) u.at) (λ fs. is_captured context live u.name fs) u
     (captured us context live rest)
 
--- A closure of these parameters: a body in a closure of its own, and then the names that were captured there. No
--- function with its key is there when it ends.
+-- A closure of these parameters: a body, one level deeper and in a closure of its own, and then the names that were
+-- captured there. No function with its key is there when it ends; otherwise that is refused at its first token.
 abbrev pub closure_of : Context → Live → Position → List Text → Production Node
 closure_of context live at names = raise (in_closure context live) at (λ deeper.
     apart (goal.ClosureBody deeper (parameters_live names)) (λ f us n.

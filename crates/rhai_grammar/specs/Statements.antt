@@ -88,8 +88,8 @@ abbrev pub token_after_statement : Closing → Lexeme → AfterStatement
 token_after_statement closing (Sign t) = sign_after closing t
 token_after_statement closing _ = after.Nothing
 
--- The tree of a statement that ends by itself (`needs_no_semicolon` of the form): an empty statement, which is also the
--- tree of a function, and a construct but for `do`.
+-- The tree of a statement that ends by itself, so that no semicolon has to follow: an empty statement, which is also
+-- the tree of a function, and a construct but for `do`.
 abbrev pub ends_itself : node.Statement → Bool
 ends_itself (node.noop p) = true
 ends_itself (node.block_statement b) = true

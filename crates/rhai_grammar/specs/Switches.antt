@@ -41,7 +41,7 @@ abbrev pub action_due : Lexeme → Verdict
 action_due (Sign token.EOF) = Wrong cause.UnexpectedEOF
 action_due _ = Fine
 
--- The tree of a statement after which an arm needs no comma (`statement_ends_arm` of the form).
+-- The tree of a statement after which an arm needs no comma: a construct but for `do`.
 abbrev pub ends_arm : node.Statement → Bool
 ends_arm (node.noop p) = false
 ends_arm f = ends_itself f

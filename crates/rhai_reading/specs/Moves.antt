@@ -15,7 +15,7 @@ pub data Outcome (S A : Type 0) : Type 0 where
 
 -- How the states move along which a reader reads: the token that the next request gives; the state after it was peeked,
 -- and after it was taken; after a `}` was taken, where the next request is one in text mode; the functions that have
--- ended; the state after one more has; the names that were used in the closure around it, and the state with others;
+-- ended; the state after one more has; the names that the closure around has captured, and the state with others;
 -- and what comes of a reader that another one calls.
 pub record Moves (S : Type 0) : Type 0 where
   pub next_item : S → Item

@@ -32,7 +32,7 @@ pub data Prog (A : Type 0) : Type 0 where
   Call : (goal : Goal) → (Val goal → Prog A) → Prog A
   -- calls a reader, and reports what it refuses as a missing literal
   CallLiteral : (goal : Goal) → (Val goal → Prog A) → Prog A
-  -- calls a reader in a closure of its own, and knows what was used there
+  -- calls a reader in a closure of its own, and knows what that captured
   CallApart : (goal : Goal) → (Val goal → List Use → Prog A) → Prog A
 
 -- ---- terms that several readers have
