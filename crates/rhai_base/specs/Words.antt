@@ -11,6 +11,7 @@ use Rattle.rhai_grammar.specs.Beginnings.{is_this, may_be_called}
 use Rattle.rhai_grammar.specs.Causes as cause
 use Rattle.rhai_grammar.specs.Causes.{Refusal, refusal}
 use Rattle.rhai_grammar.specs.Contexts.{Known}
+use Rattle.rhai_grammar.specs.Flags.{global_level}
 use Rattle.rhai_grammar.specs.Settings.{Settings, is_in_function}
 use Rattle.rhai_grammar.specs.Libraries.{Library, is_function}
 use Rattle.rhai_grammar.specs.Slots.{number}
@@ -37,7 +38,7 @@ name_result known slots library strict excluded name at =
     else Err (refusal (cause.VariableUndefined name) at)
 
 abbrev example_settings : Settings
-example_settings = record { flags = 1; options = 0; level = 0; limit = 0 }
+example_settings = record { flags = global_level; options = 0; level = 0; limit = 0 }
 
 -- the caller gives `y`
 abbrev example_known : Known

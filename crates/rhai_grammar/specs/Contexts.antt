@@ -1,8 +1,9 @@
 -- The context of a form: settings, limits, earlier definitions. Its meaning depends on these.
-use Rattle.std.specs.Prelude.{◌≡◌, ℕ, ◌==◌, Bool, true, false, ◌&&◌, not, List, [], length, nat_lt, refl}
-use Rattle.std.specs.Int.RustNames.{bit_and}
+use Rattle.std.specs.Prelude.{◌≡◌, ℕ, Bool, true, false, ◌&&◌, not, List, [], length, nat_lt, refl}
 use Rattle.rhai_lower.specs.Texts.{Text}
 use Rattle.rhai_lower.specs.Slots.{SlotValue}
+use Rattle.rhai_grammar.specs.Flags as bit
+use Rattle.rhai_grammar.specs.Flags.{has}
 use Rattle.rhai_grammar.specs.Settings as settings
 use Rattle.rhai_grammar.specs.declared.filter.ExprFilter.{ExprFilter}
 use Rattle.rhai_grammar.specs.declared.filter.ExprFilter.TheVariants.{All, AllButPipe}
@@ -70,11 +71,11 @@ is_strict context = settings.strict_names context.settings
 
 -- the engine lets a definition shadow a variable of the same name
 abbrev pub allows_shadowing : Context → Bool
-allows_shadowing context = bit_and context.options 128 == 128
+allows_shadowing context = has context.options bit.shadowing
 
 -- the engine lets scripts have loops
 abbrev pub allows_looping : Context → Bool
-allows_looping context = bit_and context.options 32 == 32
+allows_looping context = has context.options bit.looping
 
 -- a block is an operand
 abbrev pub has_block_values : Context → Bool

@@ -1,5 +1,6 @@
 pub mod Causes
 pub mod Messages
+pub mod Flags
 pub mod Settings
 pub mod Keys
 pub mod Comments

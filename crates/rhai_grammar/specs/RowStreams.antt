@@ -4,6 +4,7 @@ use Rattle.rhai_lower.specs.Lexemes.{Lexeme}
 use Rattle.rhai_lower.specs.Positions.{place}
 use Rattle.rhai_grammar.specs.Contexts.{Context, nothing_known}
 use Rattle.rhai_grammar.specs.Delivered.{Ends, Point, Taken, Then, Tokens, code, item}
+use Rattle.rhai_grammar.specs.Flags as bit
 use Rattle.rhai_grammar.specs.Libraries.{Library}
 use Rattle.rhai_grammar.specs.declared.filter.ExprFilter.TheVariants.{All}
 
@@ -27,7 +28,7 @@ between ts us end = record { tokens = line us end; taken = reverse (taken_from t
 abbrev pub depth : ℕ → Context
 depth limit = record {
   settings = record { flags = 0; options = 0; level = 0; limit = limit };
-  options = 191;
+  options = bit.all_but_strict_var;
   sizes = record { array = 0; map = 0; function_depth = 32; functions = 100 };
   filter = All;
   known = nothing_known;
@@ -38,10 +39,14 @@ depth limit = record {
 abbrev pub holding : Library → Point → Point
 holding library s = record s { library = library }
 
--- under the flag that says that the global level is parsed
-abbrev pub on_global_level : Context
-on_global_level = record (depth 64) { settings = record { flags = 1; options = 0; level = 0; limit = 64 } }
+-- under these flags and options, and the engine's default depth limit
+abbrev pub under : (flags options : ℕ) → Context
+under flags options = record (depth 64) { settings = record { flags = flags; options = options; level = 0; limit = 64 } }
 
--- under the engine's default depth limit, with closures as operands
+-- at the global level
+abbrev pub on_global_level : Context
+on_global_level = under bit.global_level 0
+
+-- with closures as operands
 abbrev pub with_closures : Context
-with_closures = record (depth 64) { settings = record { flags = 0; options = 16; level = 0; limit = 64 } }
+with_closures = under 0 bit.anon_fn

@@ -2,6 +2,8 @@
 -- the level, and its limit (0 means none). Their position is left out.
 use Rattle.std.specs.Prelude.{◌≡◌, ℕ, ◌+◌, ◌-◌, ◌^◌, ◌==◌, ◌||◌, Bool, true, false, nat_lt, min, refl}
 use Rattle.std.specs.Int.RustNames.{bit_and, bit_or}
+use Rattle.rhai_grammar.specs.Flags as bit
+use Rattle.rhai_grammar.specs.Flags.{has}
 
 pub record Settings : Type 0 where
   pub flags : ℕ
@@ -11,51 +13,51 @@ pub record Settings : Type 0 where
 
 -- the bit of the flags that says that the global level of a script is parsed
 abbrev pub at_global_level : Settings → Bool
-at_global_level settings = bit_and settings.flags 1 == 1
+at_global_level settings = has settings.flags bit.global_level
 
 -- the settings below the global level
 abbrev pub below_global_level : Settings → Settings
-below_global_level settings = record settings { flags = bit_and settings.flags 254 }
+below_global_level settings = record settings { flags = bit_and settings.flags bit.all_but_global_level }
 
 -- the bit of the flags that says that a function's body is parsed
 abbrev pub is_in_function : Settings → Bool
-is_in_function settings = bit_and settings.flags 2 == 2
+is_in_function settings = has settings.flags bit.fn_scope
 
 -- the bit of the flags that says that a loop's body is parsed
 abbrev pub in_loop : Settings → Bool
-in_loop settings = bit_and settings.flags 8 == 8
+in_loop settings = has settings.flags bit.breakable
 
 -- the settings in a loop's body
 abbrev pub loop_settings : Settings → Settings
-loop_settings settings = record settings { flags = bit_or settings.flags 8 }
+loop_settings settings = record settings { flags = bit_or settings.flags bit.breakable }
 
 -- the bit of the flags that makes a block one expression or assignment
 abbrev pub single_blocks : Settings → Bool
-single_blocks settings = bit_and settings.flags 16 == 16
+single_blocks settings = has settings.flags bit.disallow_statements_in_blocks
 
 -- the bit of the flags that requires strings as keys of object maps
 abbrev pub quoted_keys : Settings → Bool
-quoted_keys settings = bit_and settings.flags 32 == 32
+quoted_keys settings = has settings.flags bit.disallow_unquoted_map_properties
 
 -- the bit of the options that makes an `if` an operand
 abbrev pub if_values : Settings → Bool
-if_values settings = bit_and settings.options 1 == 1
+if_values settings = has settings.options bit.if_expr
 
 -- the bit of the options that makes a `switch` an operand
 abbrev pub switch_values : Settings → Bool
-switch_values settings = bit_and settings.options 2 == 2
+switch_values settings = has settings.options bit.switch_expr
 
 -- the bit of the options that makes a loop an operand
 abbrev pub loop_values : Settings → Bool
-loop_values settings = bit_and settings.options 4 == 4
+loop_values settings = has settings.options bit.loop_expr
 
 -- the bit of the options that makes a block an operand
 abbrev pub block_values : Settings → Bool
-block_values settings = bit_and settings.options 8 == 8
+block_values settings = has settings.options bit.stmt_expr
 
 -- the bit of the options that requires variables and modules to be known
 abbrev pub strict_names : Settings → Bool
-strict_names settings = bit_and settings.options 64 == 64
+strict_names settings = has settings.options bit.strict_var
 
 -- a raise is possible
 abbrev pub may_raise : Settings → Bool
@@ -74,27 +76,27 @@ level_up settings = record settings { level = one_more settings.level }
 -- they are.
 abbrev pub function_settings : Settings → (options limit : ℕ) → Settings
 function_settings settings options limit = record {
-  flags = bit_or 2 (bit_and settings.flags 32);
-  options = bit_or options (bit_and settings.options 64);
+  flags = bit_or bit.fn_scope (bit_and settings.flags bit.disallow_unquoted_map_properties);
+  options = bit_or options (bit_and settings.options bit.strict_var);
   level = 0;
   limit = limit;
 }
 
 -- the bit of the flags that says that a closure's body is parsed
 abbrev pub in_closure : Settings → Bool
-in_closure settings = bit_and settings.flags 4 == 4
+in_closure settings = has settings.flags bit.closure_scope
 
 -- the bit of the options that makes a closure an operand
 abbrev pub closure_values : Settings → Bool
-closure_values settings = bit_and settings.options 16 == 16
+closure_values settings = has settings.options bit.anon_fn
 
 -- The settings in a closure: the level and its limit stay; the flags that say that a function's and a closure's body is
 -- parsed, and the two about blocks and the keys of object maps, where they are set; and the engine's options, without
 -- strict variables.
 abbrev pub closure_settings : Settings → (options : ℕ) → Settings
 closure_settings settings options = record settings {
-  flags = bit_or 6 (bit_and settings.flags 48);
-  options = bit_and options 191;
+  flags = bit_or bit.closure_flags (bit_and settings.flags bit.kept_in_closures);
+  options = bit_and options bit.all_but_strict_var;
 }
 
 abbrev at_level : ℕ → ℕ → Settings

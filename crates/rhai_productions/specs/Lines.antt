@@ -1,6 +1,6 @@
 -- What a line of tokens is read as, by a tree or a refusal: worked rows without written forms. Each line in the files
 -- `LinesOf..` is a case of `tests/cases/`, and its answer is what is expected there.
-use Rattle.std.specs.Prelude.{◌≡◌, ℕ, Bool, Option, None, List, [], length}
+use Rattle.std.specs.Prelude.{◌≡◌, ℕ, ◌+◌, ◌-◌, Bool, Option, None, List, [], length}
 use Rattle.rhai_lower.specs.Lexemes.{Lexeme}
 use Rattle.rhai_lower.specs.Nodes as node
 use Rattle.rhai_lower.specs.Positions.{place}
@@ -10,6 +10,7 @@ use Rattle.rhai_grammar.specs.Causes.{Cause, refusal}
 use Rattle.rhai_grammar.specs.Contexts.{Context, nothing_known, nothing_live}
 use Rattle.rhai_grammar.specs.Delivered.{Ends, Mode, Point}
 use Rattle.rhai_grammar.specs.Demands.{Met, Missed}
+use Rattle.rhai_grammar.specs.Flags as bit
 use Rattle.rhai_grammar.specs.Libraries.{Ended, Library}
 use Rattle.rhai_grammar.specs.Trees.{function_called}
 use Rattle.rhai_grammar.specs.declared.filter.ExprFilter.TheVariants.{All}
@@ -34,13 +35,44 @@ pub record Engine : Type 0 where
 -- a new engine
 abbrev pub new_engine : Engine
 new_engine = record {
-  options = 191;
-  for_expressions = 179;
+  options = bit.all_but_strict_var;
+  for_expressions = bit.expression_options;
   depth = 64;
   function_depth = 32;
   functions = any_functions;
   array = 0;
   map = 0;
+}
+
+-- a new engine without an option, also for an expression alone
+abbrev without : (option : ℕ) → Engine
+without option = record new_engine {
+  options = bit.all_but_strict_var - option;
+  for_expressions = bit.expression_options - option;
+}
+
+-- a new engine without closures, without loops, and one where no variable shadows another
+abbrev pub no_closures : Engine
+no_closures = without bit.anon_fn
+
+abbrev pub no_loops : Engine
+no_loops = without bit.looping
+
+abbrev pub no_shadowing : Engine
+no_shadowing = without bit.shadowing
+
+-- a new engine that has no blocks as operands, in scripts either
+abbrev pub no_blocks : Engine
+no_blocks = record new_engine { options = bit.all_but_strict_var - bit.stmt_expr }
+
+-- a new engine with strict variables, and such a one where no variable shadows another
+abbrev pub strict : Engine
+strict = record new_engine { options = bit.every_option; for_expressions = bit.expression_options + bit.strict_var }
+
+abbrev pub strict_no_shadowing : Engine
+strict_no_shadowing = record strict {
+  options = strict.options - bit.shadowing;
+  for_expressions = strict.for_expressions - bit.shadowing;
 }
 
 abbrev context_of : Engine → (flags options : ℕ) → Context
@@ -55,10 +87,10 @@ context_of e flags options = record {
 
 -- what an engine reads at its two kinds of entry points: one expression, and a script
 abbrev pub expression_by : Engine → Goal
-expression_by e = Whole (context_of e 17 e.for_expressions) nothing_live
+expression_by e = Whole (context_of e bit.expression_flags e.for_expressions) nothing_live
 
 abbrev pub script_by : Engine → Goal
-script_by e = Script (context_of e 1 e.options) nothing_live
+script_by e = Script (context_of e bit.global_level e.options) nothing_live
 
 -- what a new engine reads
 abbrev pub expression : Goal

@@ -10,6 +10,7 @@ use Rattle.rhai_grammar.specs.Closures.{curry}
 use Rattle.rhai_grammar.specs.Trees.{method_called}
 use Rattle.rhai_productions.specs.Lines.{IsExpression, IsScript, Refuses, ended, expression, expression_by, function}
 use Rattle.rhai_productions.specs.Lines.{new_engine, script, script_by, variable}
+use Rattle.rhai_productions.specs.Lines.{no_closures, no_shadowing, strict}
 
 -- The column of an error counts from 1, as those of the tokens and of the end mark.
 pub record LinesOfClosures : Type 0 where
@@ -112,7 +113,7 @@ pub record LinesOfClosures : Type 0 where
       (node.braces (node.one_statement (node.import_statement (node.string (codes "a") (place 1 13)) (codes "m")
       (place 1 6)) node.no_statements) (place 1 4) (place 1 23))) ∷ [])
   -- `|| 1`
-  pub refused_1 : Refuses (expression_by (record new_engine { options = 175; for_expressions = 163 }))
+  pub refused_1 : Refuses (expression_by no_closures)
       ((Sign token.Or, 1) ∷ (Integer (pos 1), 4) ∷ []) 5 (cause.BadInput (cause.UnexpectedInput (codes "||"))) 1
   -- `|| 1`
   pub refused_2 : Refuses (expression_by (record new_engine { functions = 0 })) ((Sign token.Or, 1) ∷
@@ -139,10 +140,10 @@ pub record LinesOfClosures : Type 0 where
       (Sign token.SemiColon, 7) ∷ (Name (codes "y"), 9) ∷ (Sign token.RightBrace, 11) ∷ []) 12 (cause.MissingToken
       (codes "}")) 7
   -- `|| x`
-  pub refused_10 : Refuses (expression_by (record new_engine { options = 255; for_expressions = 243 }))
+  pub refused_10 : Refuses (expression_by strict)
       ((Sign token.Or, 1) ∷ (Name (codes "x"), 4) ∷ []) 5 (cause.VariableUndefined (codes "x")) 4
   -- `|x| let x = 1`
-  pub refused_11 : Refuses (expression_by (record new_engine { options = 63; for_expressions = 51 }))
+  pub refused_11 : Refuses (expression_by no_shadowing)
       ((Sign token.Pipe, 1) ∷ (Name (codes "x"), 2) ∷ (Sign token.Pipe, 3) ∷ (Sign token.Let, 5) ∷
       (Name (codes "x"), 9) ∷ (Sign token.Equals, 11) ∷ (Integer (pos 1), 13) ∷ []) 14 (cause.VariableExists
       (codes "x")) 9
@@ -179,7 +180,7 @@ pub record LinesOfClosures : Type 0 where
       (Sign token.Or, 26) ∷ (Integer (pos 2), 29) ∷ (Sign token.RightBrace, 31) ∷ []) 32 (cause.FnDuplicatedDefinition
       (codes "f") 0) 17
   -- `|| { import "a" as m; }; m::x`
-  pub refused_21 : Refuses (script_by (record new_engine { options = 255 })) ((Sign token.Or, 1) ∷
+  pub refused_21 : Refuses (script_by strict) ((Sign token.Or, 1) ∷
       (Sign token.LeftBrace, 4) ∷ (Sign token.Import, 6) ∷ (String (codes "a"), 13) ∷ (Sign token.As, 17) ∷
       (Name (codes "m"), 20) ∷ (Sign token.SemiColon, 21) ∷ (Sign token.RightBrace, 23) ∷ (Sign token.SemiColon, 24) ∷
       (Name (codes "m"), 26) ∷ (Sign token.DoubleColon, 27) ∷ (Name (codes "x"), 29) ∷ []) 30 (cause.ModuleUndefined

@@ -9,6 +9,7 @@ use Rattle.rhai_grammar.specs.Operators.{operator_called}
 use Rattle.rhai_grammar.specs.Signs.{sign_called}
 use Rattle.rhai_productions.specs.Lines.{IsExpression, IsScript, Refuses, expression, new_engine, script, script_by}
 use Rattle.rhai_productions.specs.Lines.{variable}
+use Rattle.rhai_productions.specs.Lines.{no_shadowing}
 
 -- The column of an error counts from 1, as those of the tokens and of the end mark.
 pub record LinesOfConstructs : Type 0 where
@@ -211,7 +212,7 @@ pub record LinesOfConstructs : Type 0 where
       (Integer (pos 1), 8) ∷ (Sign token.Equals, 10) ∷ (Integer (pos 2), 12) ∷ (Sign token.RightBrace, 14) ∷ []) 15
       (cause.AssignmentToConstant []) 8
   -- `let x = 1; if x { let x = 2; }`
-  pub refused_16 : Refuses (script_by (record new_engine { options = 63 })) ((Sign token.Let, 1) ∷
+  pub refused_16 : Refuses (script_by no_shadowing) ((Sign token.Let, 1) ∷
       (Name (codes "x"), 5) ∷ (Sign token.Equals, 7) ∷ (Integer (pos 1), 9) ∷ (Sign token.SemiColon, 10) ∷
       (Sign token.If, 12) ∷ (Name (codes "x"), 15) ∷ (Sign token.LeftBrace, 17) ∷ (Sign token.Let, 19) ∷
       (Name (codes "x"), 23) ∷ (Sign token.Equals, 25) ∷ (Integer (pos 2), 27) ∷ (Sign token.SemiColon, 28) ∷
@@ -256,7 +257,7 @@ pub record LinesOfConstructs : Type 0 where
       (Sign token.Catch, 8) ∷ (Sign token.LeftParen, 14) ∷ (Name (codes "e"), 15) ∷ []) 16 (cause.MissingToken
       (codes ")")) 16
   -- `try {} catch (e) { let e = e; e }`
-  pub refused_29 : Refuses (script_by (record new_engine { options = 63 })) ((Sign token.Try, 1) ∷
+  pub refused_29 : Refuses (script_by no_shadowing) ((Sign token.Try, 1) ∷
       (Sign token.LeftBrace, 5) ∷ (Sign token.RightBrace, 6) ∷ (Sign token.Catch, 8) ∷ (Sign token.LeftParen, 14) ∷
       (Name (codes "e"), 15) ∷ (Sign token.RightParen, 16) ∷ (Sign token.LeftBrace, 18) ∷ (Sign token.Let, 20) ∷
       (Name (codes "e"), 24) ∷ (Sign token.Equals, 26) ∷ (Name (codes "e"), 28) ∷ (Sign token.SemiColon, 29) ∷

@@ -9,6 +9,7 @@ use Rattle.rhai_grammar.specs.Operators.{operator_called}
 use Rattle.rhai_grammar.specs.Trees.{method_called}
 use Rattle.rhai_productions.specs.Lines.{IsScript, Refuses, ended, expression, function, new_engine, script, script_by}
 use Rattle.rhai_productions.specs.Lines.{variable}
+use Rattle.rhai_productions.specs.Lines.{strict}
 
 -- The column of an error counts from 1, as those of the tokens and of the end mark.
 pub record LinesOfFunctions : Type 0 where
@@ -85,7 +86,7 @@ pub record LinesOfFunctions : Type 0 where
       (Sign token.Fn, 9) ∷ (Name (codes "f"), 12) ∷ (Sign token.Unit, 13) ∷ (Sign token.LeftBrace, 16) ∷
       (Sign token.RightBrace, 17) ∷ []) 18 cause.TooManyFunctions 9
   -- `fn f() { f }`
-  pub refused_3 : Refuses (script_by (record new_engine { options = 255 })) ((Sign token.Fn, 1) ∷
+  pub refused_3 : Refuses (script_by strict) ((Sign token.Fn, 1) ∷
       (Name (codes "f"), 4) ∷ (Sign token.Unit, 5) ∷ (Sign token.LeftBrace, 8) ∷ (Name (codes "f"), 10) ∷
       (Sign token.RightBrace, 12) ∷ []) 13 (cause.VariableUndefined (codes "f")) 10
   -- `fn f() { 1`
@@ -138,7 +139,7 @@ pub record LinesOfFunctions : Type 0 where
       (Sign token.LeftBrace, 8) ∷ (Sign token.Export, 10) ∷ (Name (codes "x"), 17) ∷ (Sign token.SemiColon, 18) ∷
       (Sign token.RightBrace, 20) ∷ []) 21 cause.WrongExport 10
   -- `fn f() { m::g() }`
-  pub refused_19 : Refuses (script_by (record new_engine { options = 255 })) ((Sign token.Fn, 1) ∷
+  pub refused_19 : Refuses (script_by strict) ((Sign token.Fn, 1) ∷
       (Name (codes "f"), 4) ∷ (Sign token.Unit, 5) ∷ (Sign token.LeftBrace, 8) ∷ (Name (codes "m"), 10) ∷
       (Sign token.DoubleColon, 11) ∷ (Name (codes "g"), 13) ∷ (Sign token.Unit, 14) ∷ (Sign token.RightBrace, 17) ∷
       []) 18 (cause.ModuleUndefined (codes "m")) 10

@@ -10,6 +10,7 @@ use Rattle.rhai_grammar.specs.Operators.{operator_called, contains_called}
 use Rattle.rhai_grammar.specs.Signs.{sign_called}
 use Rattle.rhai_productions.specs.Lines.{IsExpression, IsScript, Refuses, expression, expression_by, new_engine, script}
 use Rattle.rhai_productions.specs.Lines.{script_by, variable}
+use Rattle.rhai_productions.specs.Lines.{no_blocks, no_loops}
 
 -- The column of an error counts from 1, as those of the tokens and of the end mark.
 pub record LinesOfJumps : Type 0 where
@@ -131,7 +132,7 @@ pub record LinesOfJumps : Type 0 where
   pub refused_1 : Refuses expression ((Sign token.Return, 1) ∷ []) 7 (cause.BadInput (cause.UnexpectedInput
       (codes "return"))) 1
   -- `return {`
-  pub refused_2 : Refuses (script_by (record new_engine { options = 183 })) ((Sign token.Return, 1) ∷
+  pub refused_2 : Refuses (script_by no_blocks) ((Sign token.Return, 1) ∷
       (Sign token.LeftBrace, 8) ∷ []) 9 (cause.MissingToken (codes ";")) 8
   -- `return ..`
   pub refused_3 : Refuses script ((Sign token.Return, 1) ∷ (Sign token.ExclusiveRange, 8) ∷ []) 10 cause.UnexpectedEOF
@@ -199,7 +200,7 @@ pub record LinesOfJumps : Type 0 where
   pub refused_23 : Refuses script ((Sign token.Loop, 1) ∷ (Sign token.LeftBrace, 6) ∷ (Sign token.Break, 8) ∷
       (Sign token.Minus, 14) ∷ []) 15 cause.UnexpectedEOF 15
   -- `continue`
-  pub refused_24 : Refuses (script_by (record new_engine { options = 159 })) ((Sign token.Continue, 1) ∷ []) 9
+  pub refused_24 : Refuses (script_by no_loops) ((Sign token.Continue, 1) ∷ []) 9
       (cause.BadInput (cause.UnexpectedInput (codes "continue"))) 1
   -- `loop { break goto }`
   pub refused_25 : Refuses script ((Sign token.Loop, 1) ∷ (Sign token.LeftBrace, 6) ∷ (Sign token.Break, 8) ∷
@@ -217,10 +218,10 @@ pub record LinesOfJumps : Type 0 where
   pub refused_29 : Refuses script ((Sign token.Loop, 1) ∷ (Sign token.LeftBrace, 6) ∷ (Sign token.Break, 8) ∷
       (Faulty UnterminatedString, 14) ∷ []) 15 (cause.BadInput (cause.Lexer UnterminatedString)) 14
   -- `continue`
-  pub refused_30 : Refuses (script_by (record new_engine { options = 159; depth = 1 })) ((Sign token.Continue, 1) ∷
+  pub refused_30 : Refuses (script_by (record no_loops { depth = 1 })) ((Sign token.Continue, 1) ∷
       []) 9 cause.ExprTooDeep 1
   -- `break;`
-  pub refused_31 : Refuses (script_by (record new_engine { options = 159; depth = 1 })) ((Sign token.Break, 1) ∷
+  pub refused_31 : Refuses (script_by (record no_loops { depth = 1 })) ((Sign token.Break, 1) ∷
       (Sign token.SemiColon, 6) ∷ []) 7 cause.ExprTooDeep 1
   -- after `break`
   pub refused_32 : Refuses (script_by (record new_engine { depth = 3 })) ((Sign token.Loop, 1) ∷

@@ -8,6 +8,7 @@ use Rattle.rhai_grammar.specs.Causes as cause
 use Rattle.rhai_grammar.specs.Operators.{operator_called}
 use Rattle.rhai_grammar.specs.Signs.{sign_called}
 use Rattle.rhai_productions.specs.Lines.{IsScript, Refuses, function, new_engine, script, script_by, variable}
+use Rattle.rhai_productions.specs.Lines.{no_loops, no_shadowing}
 
 -- The column of an error counts from 1, as those of the tokens and of the end mark.
 pub record LinesOfLoops : Type 0 where
@@ -210,7 +211,7 @@ pub record LinesOfLoops : Type 0 where
       (Sign token.LeftBrace, 22) ∷ (Name (codes "x"), 24) ∷ (Sign token.Equals, 26) ∷ (Integer (pos 2), 28) ∷
       (Sign token.RightBrace, 30) ∷ []) 31 (cause.AssignmentToConstant (codes "x")) 24
   -- `let x; loop { let x; }`
-  pub refused_15 : Refuses (script_by (record new_engine { options = 63 })) ((Sign token.Let, 1) ∷
+  pub refused_15 : Refuses (script_by no_shadowing) ((Sign token.Let, 1) ∷
       (Name (codes "x"), 5) ∷ (Sign token.SemiColon, 6) ∷ (Sign token.Loop, 8) ∷ (Sign token.LeftBrace, 13) ∷
       (Sign token.Let, 15) ∷ (Name (codes "x"), 19) ∷ (Sign token.SemiColon, 20) ∷ (Sign token.RightBrace, 22) ∷ [])
       23 (cause.VariableExists (codes "x")) 19
@@ -224,13 +225,13 @@ pub record LinesOfLoops : Type 0 where
   pub refused_18 : Refuses (script_by (record new_engine { depth = 1 })) ((Sign token.Loop, 1) ∷
       (Faulty UnterminatedString, 6) ∷ []) 7 cause.ExprTooDeep 1
   -- `loop {}`
-  pub refused_19 : Refuses (script_by (record new_engine { options = 159; depth = 1 })) ((Sign token.Loop, 1) ∷
+  pub refused_19 : Refuses (script_by (record no_loops { depth = 1 })) ((Sign token.Loop, 1) ∷
       (Sign token.LeftBrace, 6) ∷ (Sign token.RightBrace, 7) ∷ []) 8 cause.ExprTooDeep 1
   -- `while true {}`
-  pub refused_20 : Refuses (script_by (record new_engine { options = 159; depth = 1 })) ((Sign token.While, 1) ∷
+  pub refused_20 : Refuses (script_by (record no_loops { depth = 1 })) ((Sign token.While, 1) ∷
       (Sign token.True, 7) ∷ (Sign token.LeftBrace, 12) ∷ (Sign token.RightBrace, 13) ∷ []) 14 cause.ExprTooDeep 1
   -- `do {} while a`
-  pub refused_21 : Refuses (script_by (record new_engine { options = 159; depth = 1 })) ((Sign token.Do, 1) ∷
+  pub refused_21 : Refuses (script_by (record no_loops { depth = 1 })) ((Sign token.Do, 1) ∷
       (Sign token.LeftBrace, 4) ∷ (Sign token.RightBrace, 5) ∷ (Sign token.While, 7) ∷ (Name (codes "a"), 13) ∷ []) 14
       cause.ExprTooDeep 1
   -- `for x in )`
@@ -278,7 +279,7 @@ pub record LinesOfLoops : Type 0 where
   pub refused_35 : Refuses script ((Sign token.For, 1) ∷ (Sign token.LeftParen, 5) ∷ (Name (codes "a"), 6) ∷
       (Sign token.Comma, 7) ∷ (Name (codes "b"), 9) ∷ []) 10 (cause.MissingToken (codes ")")) 10
   -- `for x in y { let x = x; x }`
-  pub refused_36 : Refuses (script_by (record new_engine { options = 63 })) ((Sign token.For, 1) ∷
+  pub refused_36 : Refuses (script_by no_shadowing) ((Sign token.For, 1) ∷
       (Name (codes "x"), 5) ∷ (Sign token.In, 7) ∷ (Name (codes "y"), 10) ∷ (Sign token.LeftBrace, 12) ∷
       (Sign token.Let, 14) ∷ (Name (codes "x"), 18) ∷ (Sign token.Equals, 20) ∷ (Name (codes "x"), 22) ∷
       (Sign token.SemiColon, 23) ∷ (Name (codes "x"), 25) ∷ (Sign token.RightBrace, 27) ∷ []) 28 (cause.VariableExists
@@ -296,7 +297,7 @@ pub record LinesOfLoops : Type 0 where
   pub refused_39 : Refuses (script_by (record new_engine { depth = 2 })) ((Sign token.For, 1) ∷
       (Name (codes "x"), 5) ∷ (Sign token.In, 7) ∷ (Faulty UnterminatedString, 10) ∷ []) 11 cause.ExprTooDeep 10
   -- `for x in y {}`
-  pub refused_40 : Refuses (script_by (record new_engine { options = 159; depth = 1 })) ((Sign token.For, 1) ∷
+  pub refused_40 : Refuses (script_by (record no_loops { depth = 1 })) ((Sign token.For, 1) ∷
       (Name (codes "x"), 5) ∷ (Sign token.In, 7) ∷ (Name (codes "y"), 10) ∷ (Sign token.LeftBrace, 12) ∷
       (Sign token.RightBrace, 13) ∷ []) 14 cause.ExprTooDeep 1
   -- `loop { a }`

@@ -8,6 +8,7 @@ use Rattle.rhai_grammar.specs.Causes as cause
 use Rattle.rhai_grammar.specs.Signs.{sign_called}
 use Rattle.rhai_productions.specs.Lines.{IsExpression, IsScript, Refuses, expression, expression_by, function}
 use Rattle.rhai_productions.specs.Lines.{new_engine, script, script_by, variable}
+use Rattle.rhai_productions.specs.Lines.{no_shadowing, strict}
 
 -- The column of an error counts from 1, as those of the tokens and of the end mark.
 pub record LinesOfModules : Type 0 where
@@ -124,7 +125,7 @@ pub record LinesOfModules : Type 0 where
   pub refused_1 : Refuses expression ((Sign token.Import, 1) ∷ (String (codes "a"), 8) ∷ []) 11 (cause.BadInput
       (cause.UnexpectedInput (codes "import"))) 1
   -- `import a + b as c`
-  pub refused_2 : Refuses (script_by (record new_engine { options = 255 })) ((Sign token.Import, 1) ∷
+  pub refused_2 : Refuses (script_by strict) ((Sign token.Import, 1) ∷
       (Name (codes "a"), 8) ∷ (Sign token.Plus, 10) ∷ (Name (codes "b"), 12) ∷ (Sign token.As, 14) ∷
       (Name (codes "c"), 17) ∷ []) 18 (cause.VariableUndefined (codes "a")) 8
   -- `import`
@@ -145,7 +146,7 @@ pub record LinesOfModules : Type 0 where
       (Sign token.DoubleColon, 3) ∷ (Name (codes "x"), 5) ∷ (Name (codes "y"), 7) ∷ (Sign token.RightBracket, 8) ∷ [])
       9 (cause.MissingToken (codes ",")) 7
   -- `m::x`
-  pub refused_9 : Refuses (expression_by (record new_engine { options = 255; for_expressions = 243 }))
+  pub refused_9 : Refuses (expression_by strict)
       ((Name (codes "m"), 1) ∷ (Sign token.DoubleColon, 2) ∷ (Name (codes "x"), 4) ∷ []) 5 (cause.ModuleUndefined
       (codes "m")) 1
   -- `m::f() = 1`
@@ -190,7 +191,7 @@ pub record LinesOfModules : Type 0 where
       (Sign token.Equals, 16) ∷ (Integer (pos 1), 18) ∷ (Sign token.SemiColon, 19) ∷ (Name (codes "x"), 21) ∷
       (Sign token.Equals, 23) ∷ (Integer (pos 2), 25) ∷ []) 26 (cause.AssignmentToConstant (codes "x")) 21
   -- an export of two definitions, without shadowing
-  pub refused_21 : Refuses (script_by (record new_engine { options = 63 })) ((Sign token.Export, 1) ∷
+  pub refused_21 : Refuses (script_by no_shadowing) ((Sign token.Export, 1) ∷
       (Sign token.Let, 8) ∷ (Name (codes "x"), 12) ∷ (Sign token.SemiColon, 13) ∷ (Sign token.Export, 15) ∷
       (Sign token.Const, 22) ∷ (Name (codes "x"), 28) ∷ []) 29 (cause.VariableExists (codes "x")) 28
   -- `{ export }`

@@ -9,6 +9,7 @@ use Rattle.rhai_grammar.specs.Operators.{operator_called, contains_called}
 use Rattle.rhai_grammar.specs.Signs.{sign_called}
 use Rattle.rhai_productions.specs.Lines.{IsExpression, Refuses, expression, expression_by, function, new_engine, script}
 use Rattle.rhai_productions.specs.Lines.{script_by, variable}
+use Rattle.rhai_productions.specs.Lines.{no_closures, strict, strict_no_shadowing}
 
 -- The column of an error counts from 1, as those of the tokens and of the end mark.
 pub record LinesOfOperands : Type 0 where
@@ -145,7 +146,7 @@ pub record LinesOfOperands : Type 0 where
   -- `..`
   pub refused_16 : Refuses expression ((Sign token.ExclusiveRange, 1) ∷ []) 3 cause.UnexpectedEOF 3
   -- `5.. |`
-  pub refused_17 : Refuses (expression_by (record new_engine { options = 175; for_expressions = 163; depth = 1 }))
+  pub refused_17 : Refuses (expression_by (record no_closures { depth = 1 }))
       ((Integer (pos 5), 1) ∷ (Sign token.ExclusiveRange, 2) ∷ (Sign token.Pipe, 5) ∷ []) 6 (cause.BadInput
       (cause.UnexpectedInput (codes "|"))) 5
   -- `5.. |`
@@ -167,7 +168,7 @@ pub record LinesOfOperands : Type 0 where
   pub refused_23 : Refuses (expression_by (record new_engine { depth = 1 })) ((Integer (pos 5), 1) ∷
       (Sign token.ExclusiveRange, 2) ∷ (Sign token.Comma, 5) ∷ []) 6 cause.ExprTooDeep 1
   -- `x`
-  pub refused_24 : Refuses (expression_by (record new_engine { options = 255; for_expressions = 243 }))
+  pub refused_24 : Refuses (expression_by strict)
       ((Name (codes "x"), 1) ∷ []) 2 (cause.VariableUndefined (codes "x")) 1
   -- `x y`
   pub refused_25 : Refuses expression ((Name (codes "x"), 1) ∷ (Name (codes "y"), 3) ∷ []) 4 (cause.BadInput
@@ -198,26 +199,26 @@ pub record LinesOfOperands : Type 0 where
       (Sign token.Plus, 3) ∷ (Sign token.UnaryPlus, 5) ∷ (Integer (pos 5), 6) ∷ (Sign token.Multiply, 8) ∷
       (Integer (pos 3), 10) ∷ []) 11 cause.ExprTooDeep 6
   -- `y`
-  pub refused_34 : Refuses (expression_by (record new_engine { options = 255; for_expressions = 243 }))
+  pub refused_34 : Refuses (expression_by strict)
       ((Name (codes "y"), 1) ∷ []) 2 (cause.VariableUndefined (codes "y")) 1
   -- `const x = 1; x += 2`
-  pub refused_35 : Refuses (script_by (record new_engine { options = 255 })) ((Sign token.Const, 1) ∷
+  pub refused_35 : Refuses (script_by strict) ((Sign token.Const, 1) ∷
       (Name (codes "x"), 7) ∷ (Sign token.Equals, 9) ∷ (Integer (pos 1), 11) ∷ (Sign token.SemiColon, 12) ∷
       (Name (codes "x"), 14) ∷ (Sign token.PlusAssign, 16) ∷ (Integer (pos 2), 19) ∷ []) 20
       (cause.AssignmentToConstant (codes "x")) 14
   -- `n::f!()`
-  pub refused_36 : Refuses (expression_by (record new_engine { options = 255; for_expressions = 243 }))
+  pub refused_36 : Refuses (expression_by strict)
       ((Name (codes "n"), 1) ∷ (Sign token.DoubleColon, 2) ∷ (Name (codes "f"), 4) ∷ (Sign token.Bang, 5) ∷
       (Sign token.Unit, 6) ∷ []) 8 (cause.BadInput (cause.UnexpectedInput (codes "!"))) 5
   -- `f! y`
-  pub refused_37 : Refuses (expression_by (record new_engine { options = 255; for_expressions = 243 }))
+  pub refused_37 : Refuses (expression_by strict)
       ((Name (codes "f"), 1) ∷ (Sign token.Bang, 2) ∷ (Name (codes "y"), 4) ∷ []) 5 (cause.MissingToken (codes "(")) 4
   -- `this.x`
-  pub refused_38 : Refuses (expression_by (record new_engine { options = 255; for_expressions = 243 }))
+  pub refused_38 : Refuses (expression_by strict)
       ((Reserved (codes "this"), 1) ∷ (Sign token.Period, 5) ∷ (Name (codes "x"), 6) ∷ []) 7 (cause.BadInput
       (cause.ImproperSymbol (codes "this"))) 1
   -- `switch 1 { y => 2 }`
-  pub refused_39 : Refuses (expression_by (record new_engine { options = 255; for_expressions = 243 }))
+  pub refused_39 : Refuses (expression_by strict)
       ((Sign token.Switch, 1) ∷ (Integer (pos 1), 8) ∷ (Sign token.LeftBrace, 10) ∷ (Name (codes "y"), 12) ∷
       (Sign token.DoubleArrow, 14) ∷ (Integer (pos 2), 17) ∷ (Sign token.RightBrace, 19) ∷ []) 20 (cause.ExprExpected
       (codes "literal")) 12
@@ -226,60 +227,60 @@ pub record LinesOfOperands : Type 0 where
       (Name (codes "y"), 12) ∷ (Sign token.DoubleArrow, 14) ∷ (Integer (pos 2), 17) ∷ (Sign token.RightBrace, 19) ∷
       []) 20 (cause.ExprExpected (codes "a literal")) 12
   -- an error of the tokenizer after the `::` of a module that is not known
-  pub refused_41 : Refuses (expression_by (record new_engine { options = 255; for_expressions = 243 }))
+  pub refused_41 : Refuses (expression_by strict)
       ((Name (codes "n"), 1) ∷ (Sign token.DoubleColon, 2) ∷ (Faulty UnterminatedString, 4) ∷ []) 7 (cause.BadInput
       (cause.Lexer UnterminatedString)) 4
   -- `let x; { let y; let x }`, without shadowing
-  pub refused_42 : Refuses (script_by (record new_engine { options = 127 })) ((Sign token.Let, 1) ∷
+  pub refused_42 : Refuses (script_by strict_no_shadowing) ((Sign token.Let, 1) ∷
       (Name (codes "x"), 5) ∷ (Sign token.SemiColon, 6) ∷ (Sign token.LeftBrace, 8) ∷ (Sign token.Let, 10) ∷
       (Name (codes "y"), 14) ∷ (Sign token.SemiColon, 15) ∷ (Sign token.Let, 17) ∷ (Name (codes "x"), 21) ∷
       (Sign token.RightBrace, 23) ∷ []) 24 (cause.VariableExists (codes "x")) 21
   -- `n::x`
-  pub refused_43 : Refuses (expression_by (record new_engine { options = 255; for_expressions = 243 }))
+  pub refused_43 : Refuses (expression_by strict)
       ((Name (codes "n"), 1) ∷ (Sign token.DoubleColon, 2) ∷ (Name (codes "x"), 4) ∷ []) 5 (cause.ModuleUndefined
       (codes "n")) 1
   -- `n::f(1 2)`
-  pub refused_44 : Refuses (expression_by (record new_engine { options = 255; for_expressions = 243 }))
+  pub refused_44 : Refuses (expression_by strict)
       ((Name (codes "n"), 1) ∷ (Sign token.DoubleColon, 2) ∷ (Name (codes "f"), 4) ∷ (Sign token.LeftParen, 5) ∷
       (Integer (pos 1), 6) ∷ (Integer (pos 2), 8) ∷ (Sign token.RightParen, 9) ∷ []) 10 (cause.MissingToken
       (codes ",")) 8
   -- `n::f(`
-  pub refused_45 : Refuses (expression_by (record new_engine { options = 255; for_expressions = 243 }))
+  pub refused_45 : Refuses (expression_by strict)
       ((Name (codes "n"), 1) ∷ (Sign token.DoubleColon, 2) ∷ (Name (codes "f"), 4) ∷ (Sign token.LeftParen, 5) ∷ []) 6
       (cause.MissingToken (codes ")")) 6
   -- `n::x.1`
-  pub refused_46 : Refuses (expression_by (record new_engine { options = 255; for_expressions = 243 }))
+  pub refused_46 : Refuses (expression_by strict)
       ((Name (codes "n"), 1) ∷ (Sign token.DoubleColon, 2) ∷ (Name (codes "x"), 4) ∷ (Sign token.Period, 5) ∷
       (Integer (pos 1), 6) ∷ []) 7 cause.PropertyExpected 6
   -- `n::x[`
-  pub refused_47 : Refuses (expression_by (record new_engine { options = 255; for_expressions = 243 }))
+  pub refused_47 : Refuses (expression_by strict)
       ((Name (codes "n"), 1) ∷ (Sign token.DoubleColon, 2) ∷ (Name (codes "x"), 4) ∷ (Sign token.LeftBracket, 5) ∷ [])
       6 cause.UnexpectedEOF 6
   -- `n::x[1`
-  pub refused_48 : Refuses (expression_by (record new_engine { options = 255; for_expressions = 243 }))
+  pub refused_48 : Refuses (expression_by strict)
       ((Name (codes "n"), 1) ∷ (Sign token.DoubleColon, 2) ∷ (Name (codes "x"), 4) ∷ (Sign token.LeftBracket, 5) ∷
       (Integer (pos 1), 6) ∷ []) 7 (cause.MissingToken (codes "]")) 7
   -- `n::x.f!()`
-  pub refused_49 : Refuses (expression_by (record new_engine { options = 255; for_expressions = 243 }))
+  pub refused_49 : Refuses (expression_by strict)
       ((Name (codes "n"), 1) ∷ (Sign token.DoubleColon, 2) ∷ (Name (codes "x"), 4) ∷ (Sign token.Period, 5) ∷
       (Name (codes "f"), 6) ∷ (Sign token.Bang, 7) ∷ (Sign token.Unit, 8) ∷ []) 10 cause.MalformedCapture 6
   -- `n::1`
-  pub refused_50 : Refuses (expression_by (record new_engine { options = 255; for_expressions = 243 }))
+  pub refused_50 : Refuses (expression_by strict)
       ((Name (codes "n"), 1) ∷ (Sign token.DoubleColon, 2) ∷ (Integer (pos 1), 4) ∷ []) 5 cause.VariableExpected 4
   -- `((y))`
-  pub refused_51 : Refuses (expression_by (record new_engine { options = 255; for_expressions = 243; depth = 4 }))
+  pub refused_51 : Refuses (expression_by (record strict { depth = 4 }))
       ((Sign token.LeftParen, 1) ∷ (Sign token.LeftParen, 2) ∷ (Name (codes "y"), 3) ∷ (Sign token.RightParen, 4) ∷
       (Sign token.RightParen, 5) ∷ []) 6 cause.ExprTooDeep 3
   -- `n::x.y`
-  pub refused_52 : Refuses (expression_by (record new_engine { options = 255; for_expressions = 243; depth = 1 }))
+  pub refused_52 : Refuses (expression_by (record strict { depth = 1 }))
       ((Name (codes "n"), 1) ∷ (Sign token.DoubleColon, 2) ∷ (Name (codes "x"), 4) ∷ (Sign token.Period, 5) ∷
       (Name (codes "y"), 6) ∷ []) 7 cause.ExprTooDeep 5
   -- `n::f(1)`
-  pub refused_53 : Refuses (expression_by (record new_engine { options = 255; for_expressions = 243; depth = 1 }))
+  pub refused_53 : Refuses (expression_by (record strict { depth = 1 }))
       ((Name (codes "n"), 1) ∷ (Sign token.DoubleColon, 2) ∷ (Name (codes "f"), 4) ∷ (Sign token.LeftParen, 5) ∷
       (Integer (pos 1), 6) ∷ (Sign token.RightParen, 7) ∷ []) 8 cause.ExprTooDeep 4
   -- `n::x[0]`
-  pub refused_54 : Refuses (expression_by (record new_engine { options = 255; for_expressions = 243; depth = 2 }))
+  pub refused_54 : Refuses (expression_by (record strict { depth = 2 }))
       ((Name (codes "n"), 1) ∷ (Sign token.DoubleColon, 2) ∷ (Name (codes "x"), 4) ∷ (Sign token.LeftBracket, 5) ∷
       (Integer (pos 0), 6) ∷ (Sign token.RightBracket, 7) ∷ []) 8 cause.ExprTooDeep 5
   -- `m::x + 1`

@@ -10,6 +10,7 @@ use Rattle.rhai_grammar.specs.Signs.{sign_called}
 use Rattle.rhai_grammar.specs.Trees.{method_called}
 use Rattle.rhai_productions.specs.Lines.{IsScript, Refuses, expression, function, new_engine, script, script_by}
 use Rattle.rhai_productions.specs.Lines.{variable}
+use Rattle.rhai_productions.specs.Lines.{no_shadowing}
 
 -- The column of an error counts from 1, as those of the tokens and of the end mark.
 pub record LinesOfStatements : Type 0 where
@@ -194,7 +195,7 @@ pub record LinesOfStatements : Type 0 where
   pub refused_14 : Refuses script ((Sign token.Let, 1) ∷ (Faulty UnterminatedString, 5) ∷ []) 6 (cause.BadInput
       (cause.Lexer UnterminatedString)) 5
   -- before the value: `let x; let x = )`
-  pub refused_15 : Refuses (script_by (record new_engine { options = 63 })) ((Sign token.Let, 1) ∷
+  pub refused_15 : Refuses (script_by no_shadowing) ((Sign token.Let, 1) ∷
       (Name (codes "x"), 5) ∷ (Sign token.SemiColon, 6) ∷ (Sign token.Let, 8) ∷ (Name (codes "x"), 12) ∷
       (Sign token.Equals, 14) ∷ (Sign token.RightParen, 16) ∷ []) 17 (cause.VariableExists (codes "x")) 12
   -- `1 = 2`
@@ -249,7 +250,7 @@ pub record LinesOfStatements : Type 0 where
   pub refused_31 : Refuses (script_by (record new_engine { depth = 3 })) ((Sign token.LeftBrace, 1) ∷
       (Sign token.Let, 3) ∷ (Integer (pos 1), 7) ∷ (Sign token.RightBrace, 9) ∷ []) 10 cause.VariableExpected 7
   -- a name that exists: `{ let x; let x = 1 }`
-  pub refused_32 : Refuses (script_by (record new_engine { options = 63; depth = 3 })) ((Sign token.LeftBrace, 1) ∷
+  pub refused_32 : Refuses (script_by (record no_shadowing { depth = 3 })) ((Sign token.LeftBrace, 1) ∷
       (Sign token.Let, 3) ∷ (Name (codes "x"), 7) ∷ (Sign token.SemiColon, 8) ∷ (Sign token.Let, 10) ∷
       (Name (codes "x"), 14) ∷ (Sign token.Equals, 16) ∷ (Integer (pos 1), 18) ∷ (Sign token.RightBrace, 20) ∷ []) 21
       (cause.VariableExists (codes "x")) 14

@@ -8,6 +8,7 @@ use Rattle.rhai_grammar.specs.Causes as cause
 use Rattle.rhai_grammar.specs.Operators.{operator_called}
 use Rattle.rhai_productions.specs.Lines.{IsExpression, IsScript, Refuses, expression_by, new_engine, script, script_by}
 use Rattle.rhai_productions.specs.Lines.{expression, variable}
+use Rattle.rhai_productions.specs.Lines.{no_shadowing}
 
 -- The column of an error counts from 1, as those of the tokens and of the end mark.
 pub record LinesOfSwitches : Type 0 where
@@ -170,7 +171,7 @@ pub record LinesOfSwitches : Type 0 where
       (Sign token.LeftBrace, 11) ∷ (Sign token.RightBrace, 12) ∷ (Sign token.RightParen, 13) ∷
       (Sign token.Equals, 15) ∷ (Integer (pos 1), 17) ∷ []) 18 (cause.AssignmentToInvalidLHS []) 2
   -- `let x; switch a { 1 => let x }`
-  pub refused_19 : Refuses (script_by (record new_engine { options = 63 })) ((Sign token.Let, 1) ∷
+  pub refused_19 : Refuses (script_by no_shadowing) ((Sign token.Let, 1) ∷
       (Name (codes "x"), 5) ∷ (Sign token.SemiColon, 6) ∷ (Sign token.Switch, 8) ∷ (Name (codes "a"), 15) ∷
       (Sign token.LeftBrace, 17) ∷ (Integer (pos 1), 19) ∷ (Sign token.DoubleArrow, 21) ∷ (Sign token.Let, 24) ∷
       (Name (codes "x"), 28) ∷ (Sign token.RightBrace, 30) ∷ []) 31 (cause.VariableExists (codes "x")) 28

@@ -1,5 +1,5 @@
 -- Worked rows of closures and their bodies: lines, their written forms and trees, and what is refused.
-use Rattle.std.specs.Prelude.{List, None, ℕ, [], codes, false, pos, true, ◌++◌, ◌∷◌, ◌≡◌}
+use Rattle.std.specs.Prelude.{List, None, ℕ, [], codes, false, pos, true, ◌+◌, ◌++◌, ◌∷◌, ◌≡◌}
 use Rattle.rhai_lower.specs.Lexemes.{Integer, Lexeme, Name, Sign}
 use Rattle.rhai_lower.specs.Nodes as node
 use Rattle.rhai_lower.specs.Nodes.{Node}
@@ -10,9 +10,10 @@ use Rattle.rhai_grammar.specs.Causes.{refusal}
 use Rattle.rhai_grammar.specs.Closures.{closure_name}
 use Rattle.rhai_grammar.specs.Contexts.{Context}
 use Rattle.rhai_grammar.specs.Delivered.{code}
+use Rattle.rhai_grammar.specs.Flags as bit
 use Rattle.rhai_grammar.specs.Libraries.{Ended}
 use Rattle.rhai_grammar.specs.Operators.{operator_call}
-use Rattle.rhai_grammar.specs.RowStreams.{between, depth, holding, on_global_level, unread, with_closures}
+use Rattle.rhai_grammar.specs.RowStreams.{between, holding, on_global_level, under, unread, with_closures}
 use Rattle.rhai_grammar.specs.Forms.{apart, captures_here, knows, must, open_form}
 use Rattle.rhai_grammar.specs.Promises.{Unwritten, Written, tree_of}
 use Rattle.rhai_productions.specs.RowsOfClosures.{giving, names_at, pointer}
@@ -91,7 +92,7 @@ abbrev pub empty_refused : Unwritten (formula no_function)
 empty_refused = open_whole (open_operand (Sign token.Or) 1 (open_bars 1 tt no_room))
 
 abbrev pub strict : Context
-strict = record (depth 64) { settings = record { flags = 0; options = 80; level = 0; limit = 64 } }
+strict = under 0 (bit.anon_fn + bit.strict_var)
 
 abbrev pub use_tokens : List (Lexeme × ℕ)
 use_tokens = (Sign token.Or, 1) ∷ (Name (codes "x"), 4) ∷ []

@@ -10,8 +10,9 @@ use Rattle.rhai_grammar.specs.Causes as cause
 use Rattle.rhai_grammar.specs.Causes.{refusal}
 use Rattle.rhai_grammar.specs.Contexts.{Context, allows_looping, has_single_blocks, loop_body, nothing_live}
 use Rattle.rhai_grammar.specs.Delivered.{code}
+use Rattle.rhai_grammar.specs.Flags as bit
 use Rattle.rhai_grammar.specs.Operators.{operator_call}
-use Rattle.rhai_grammar.specs.RowStreams.{between, depth, unread}
+use Rattle.rhai_grammar.specs.RowStreams.{between, depth, under, unread}
 use Rattle.rhai_grammar.specs.Forms.{choose, form, given, if_not, literal_here, must, must_here, open_form, part}
 use Rattle.rhai_grammar.specs.Forms.{take, take_here, this}
 use Rattle.rhai_grammar.specs.Promises.{Unwritten, Written, tree_of}
@@ -87,7 +88,7 @@ break_refused =
 
 -- under the flag that says that a loop's body is parsed
 abbrev pub in_loop : Context
-in_loop = record (depth 64) { settings = record { flags = 8; options = 0; level = 0; limit = 64 } }
+in_loop = under bit.breakable 0
 
 abbrev pub break_form : Written (script in_loop)
 break_form = written_as (first_of (breaks 1 tt without_value) tt (semicolon_then 6 (no_more 7)))

@@ -10,6 +10,7 @@ use Rattle.rhai_grammar.specs.Causes as cause
 use Rattle.rhai_grammar.specs.Causes.{Refusal, refusal}
 use Rattle.rhai_grammar.specs.Contexts.{Context, has_single_blocks, nothing_live}
 use Rattle.rhai_grammar.specs.Delivered.{code, past, text}
+use Rattle.rhai_grammar.specs.Flags.{all_but_strict_var, expression_flags, expression_options, global_level}
 use Rattle.rhai_grammar.specs.EntryContexts.{at_entry, entry_expression, entry_script}
 use Rattle.rhai_grammar.specs.Libraries.{Ended, Library}
 use Rattle.rhai_grammar.specs.RowStreams.{between, holding, unread}
@@ -112,7 +113,7 @@ abbrev pub inner_rest : List (Lexeme × ℕ)
 inner_rest = (Name (codes "y"), 6) ∷ (Sign token.Pipe, 7) ∷ (Name (codes "y"), 9) ∷ []
 
 -- up to the inner closure, for which there is no room
-abbrev pub inner_form : Unwritten (formula (at_entry 17 179 64 1))
+abbrev pub inner_form : Unwritten (formula (at_entry expression_flags expression_options 64 1))
 inner_form =
     open_whole (open_operand (Sign token.Pipe) 1 (open_pipe 1 tt (open_doing (codes "x") 2 3 (open_evaluates
     (Sign token.Pipe) 5 tt (open_single (open_operand (Sign token.Pipe) 5 (open_pipe 5 tt no_room)))))))
@@ -125,7 +126,7 @@ abbrev pub returned_rest : List (Lexeme × ℕ)
 returned_rest = (Name (codes "x"), 9) ∷ (Sign token.Pipe, 10) ∷ (Name (codes "x"), 12) ∷ []
 
 -- up to the closure for which there is no room
-abbrev pub returned_form : Unwritten (script (at_entry 1 191 64 0))
+abbrev pub returned_form : Unwritten (script (at_entry global_level all_but_strict_var 64 0))
 returned_form = open_first (open_return 1 (open_jump (open_operand (Sign token.Pipe) 8 (open_pipe 8 tt no_room)))) tt
 
 pub record ClosuresEnter : Type 0 where
@@ -133,10 +134,12 @@ pub record ClosuresEnter : Type 0 where
       closure.member_tree (member_function ∷ [])
   pub sum : EntersExpression (closure.sum_form (entry_expression 64) tt) closure.sum_tokens 10 closure.sum_value
       (closure.sum_function ∷ [])
-  pub second : Misses (formula (at_entry 17 179 64 1)) inner_form (unread (inner_begun ++ inner_rest) 10)
-      (refusal cause.TooManyFunctions (place 1 5)) code (between inner_begun inner_rest 10)
-  pub none : Misses (script (at_entry 1 191 64 0)) returned_form (unread (returned_begun ++ returned_rest) 13)
-      (refusal cause.TooManyFunctions (place 1 8)) code (between returned_begun returned_rest 13)
+  pub second : Misses (formula (at_entry expression_flags expression_options 64 1)) inner_form
+      (unread (inner_begun ++ inner_rest) 10) (refusal cause.TooManyFunctions (place 1 5)) code
+      (between inner_begun inner_rest 10)
+  pub none : Misses (script (at_entry global_level all_but_strict_var 64 0)) returned_form
+      (unread (returned_begun ++ returned_rest) 13) (refusal cause.TooManyFunctions (place 1 8)) code
+      (between returned_begun returned_rest 13)
 
 -- ---- `for (a, i) in 0..3 { a + i }`
 

@@ -12,7 +12,8 @@ use Rattle.rhai_grammar.specs.Causes as cause
 use Rattle.rhai_grammar.specs.Causes.{Refusal, refusal}
 use Rattle.rhai_grammar.specs.Contexts.{Context, has_single_blocks}
 use Rattle.rhai_grammar.specs.Delivered.{code}
-use Rattle.rhai_grammar.specs.RowStreams.{between, depth, unread}
+use Rattle.rhai_grammar.specs.Flags as bit
+use Rattle.rhai_grammar.specs.RowStreams.{between, depth, under, unread}
 use Rattle.rhai_grammar.specs.Trees.{variable_of}
 use Rattle.rhai_grammar.specs.Forms.{choose, never_here, open_form, part, take_here}
 use Rattle.rhai_grammar.specs.Promises.{Unwritten, Written, tree_of}
@@ -183,7 +184,7 @@ single_rest = (Sign token.SemiColon, 4) ∷ (Integer (pos 2), 6) ∷ (Sign token
 
 -- under the flag that makes a block one expression
 abbrev pub single_blocks : Context
-single_blocks = record (depth 64) { settings = record { flags = 16; options = 0; level = 0; limit = 64 } }
+single_blocks = under bit.disallow_statements_in_blocks 0
 
 -- up to the `}` that is missing
 abbrev pub single_form : Unwritten (script single_blocks)
@@ -192,7 +193,7 @@ single_form =
     (open_part take_here)))) tt
 
 abbrev pub block_values : Context
-block_values = record (depth 64) { settings = record { flags = 16; options = 8; level = 0; limit = 64 } }
+block_values = under bit.disallow_statements_in_blocks bit.stmt_expr
 
 -- `{ 1 }` as an operand, where the options allow that and a block is one expression
 abbrev pub value_form : Written (formula block_values)

@@ -5,6 +5,7 @@ use Rattle.bitflags.specs.Sets.{without}
 use Rattle.rhai_lower.specs.Positions.{place}
 use Rattle.rhai_lower.specs.Texts.{Text}
 use Rattle.rhai_grammar.specs.Contexts.{Sizes}
+use Rattle.rhai_grammar.specs.Flags as bit
 use Rattle.rhai_base.specs.declared.settings.ParseSettings.{ParseSettings}
 
 -- the bits of its options, its limits, and the names of its modules
@@ -29,7 +30,7 @@ sizes_of l = record {
 -- a new engine: all options but STRICT_VAR
 abbrev pub fresh_engine : EngineValue
 fresh_engine = record {
-  options = 191;
+  options = bit.all_but_strict_var;
   max_expr_depth = 64;
   max_function_expr_depth = 32;
   max_functions = 2 ^ 64 - 1;
@@ -46,8 +47,8 @@ with_bits options bits enable = if enable then bit_or options bits else without 
 -- DISALLOW_STATEMENTS_IN_BLOCKS, and the engine's options without STMT_EXPR and LOOP_EXPR.
 abbrev pub expr_settings : EngineValue → ParseSettings
 expr_settings e = record {
-  flags = record { 0 = 17 };
-  options = record { 0 = without 8 (without 8 e.options 8) 4 };
+  flags = record { 0 = bit.expression_flags };
+  options = record { 0 = without 8 (without 8 e.options bit.stmt_expr) bit.loop_expr };
   level = 0;
   pos = place 1 1;
   max_expr_depth = e.max_expr_depth;
@@ -56,7 +57,7 @@ expr_settings e = record {
 -- the settings that a script is read under, before the caller changes them: the flag GLOBAL_LEVEL
 abbrev pub script_settings : EngineValue → ParseSettings
 script_settings e = record {
-  flags = record { 0 = 1 };
+  flags = record { 0 = bit.global_level };
   options = record { 0 = e.options };
   level = 0;
   pos = place 1 1;

@@ -4,6 +4,7 @@ use Rattle.std.specs.Prelude.{◌≡◌, ℕ, ◌+◌, ◌-◌, ◌*◌, ◌^◌
 use Rattle.rhai_lower.specs.Positions.{place}
 use Rattle.rhai_grammar.specs.NumberedLibraries.{IsOrderly}
 use Rattle.rhai_grammar.specs.Libraries.{Library}
+use Rattle.rhai_grammar.specs.Flags.{global_level}
 use Rattle.rhai_grammar.specs.Settings.{at_global_level}
 use Rattle.rhai_base.specs.Counts.{counts_of}
 use Rattle.rhai_base.specs.Frames.{FrameValue}
@@ -30,7 +31,7 @@ function_height engine settings =
 
 -- at the global level
 abbrev at_global : ParseSettings
-at_global = record (bare 0 0 (place 1 1)) { flags = record { 0 = 1 } }
+at_global = record (bare 0 0 (place 1 1)) { flags = record { 0 = global_level } }
 
 abbrev four_levels : EngineValue
 four_levels = record {
