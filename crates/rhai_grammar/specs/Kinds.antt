@@ -103,7 +103,7 @@ abbrev mutual
   have_constants no_properties = true
   have_constants (one_property t p n ps) = is_constant n && have_constants ps
 
--- `5`, and `['a']`, an array of one string
+-- `5`, and `["a"]`, an array of one string
 abbrev example_five : Node
 example_five = integer (pos 5) (place 1 1)
 

@@ -99,11 +99,12 @@ import_tree source name at = node.import_statement source (unwrap_or name []) at
 abbrev pub export_tree : Text → Option Text → Position → node.Statement
 export_tree name other at = node.export_statement name (unwrap_or other []) at
 
--- statements with one more
+-- statements with one more, unless that is an empty one
 abbrev pub with_kept : node.Statements → node.Statement → node.Statements
 with_kept before (noop at) = before
 with_kept before f = node.with_statement before f
 
+-- the name of the variable of `catch`, if it has one
 abbrev pub caught_name : Option (Text × Position) → Option Text
 caught_name None = None
 caught_name (Some name) = Some name.0
