@@ -86,7 +86,7 @@ noted_has u us = by (is_among u.name (names_of us)) refl
     by true e = e
     by false e = among_more u.name us u ∙ or_right _ _ (or_left _ _ (same u.name))
 
--- a name has a slot, or is that of a function, or was used
+-- a name has a slot, or is that of a function, or was captured
 abbrev IsAround : Live → Library → List Use → Text → Type 0
 IsAround w library us name =
     (is_some (number name w.slots) ≡ true) ⊎ ((is_function library name ≡ true) ⊎ (is_among name (names_of us) ≡ true))

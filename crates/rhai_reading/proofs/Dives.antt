@@ -105,7 +105,7 @@ dives_text {A} {D} {k} {s} p i here there is readable r = record {
       else Refused (refusal (unexpected i.lexeme) i.at) (after_peek v))) (sym is) on)));
 }
 
--- the functions that have ended, and the names that were used
+-- the functions that have ended, and the names that were captured
 pub dives_know : {A : Type 0} {D : ℕ → ℕ} {k : Library → Prog A} {s : State} → Dives D (k s.point.library) s
     → Dives D (Know k) s
 dives_know {A} {D} {k} {s} r = record {

@@ -30,7 +30,7 @@ begun s = record {
 abbrev pub from : Progress → Point
 from s = start_of s.library s.cursor
 
--- its next token is asked for in code mode, and no name was used
+-- its next token is asked for in code mode, and no name was captured
 pub record IsNew (s : Progress) : Type 0 where
   pub mode : s.cursor.mode ≡ code
   pub captured : s.captured ≡ []

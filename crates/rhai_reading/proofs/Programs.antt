@@ -93,7 +93,7 @@ module _ {T : Type 0} (n : Moves T) {R : Bool → State → T → Type 0} {E : R
       (if is_memory i.lexeme then Refused out_of_memory (n.after_peek t) else o i)) (sym (alike.next_item b s t r))
       (either (is_memory i.lexeme) (λ none. refuse out_of_memory (alike.stopped b _ s t r (λ other. absurd cc))) on))
 
-  -- the functions that have ended, and the names that were used
+  -- the functions that have ended, and the names that were captured
   known : {A : Type 0} (f : Library → List Use → Run A) (us : List Use → List Use)
       (o : Library → List Use → Outcome T A) {s : State} {t : T} → R false s t
       → Tells (f s.point.library s.point.captured) (with_captured (us s.point.captured) s)

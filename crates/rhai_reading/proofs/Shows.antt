@@ -106,7 +106,7 @@ module _ {A : Type 0} {call : Histories} {Q : A → Point → Type 0} {N : Refus
       → Shows call Q N (Add ended p) s b
   add h = record { shown = h.shown }
 
-  -- a name is used, if it is a use
+  -- the closure around captures a name, or not
   pub note : {c : Bool} {u : Use} {p : Prog A} {s : Point} {b : Bool} → Shows call Q N p (capturing c u s) b
       → Shows call Q N (Note c u p) s b
   note h = record { shown = h.shown }

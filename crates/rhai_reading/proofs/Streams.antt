@@ -1,5 +1,5 @@
 -- A run does the same on every stream that begins with what it saw, if the same functions have ended and the same names
--- were used. Nothing here speaks of the grammar.
+-- were captured. Nothing here speaks of the grammar.
 use Rattle.std.proofs.Common.{◌≡◌, Bool, true, List, [], ◌∷◌, ◌++◌, refl, sym, ap, ◌∙◌, subst}
 use Rattle.rhai_grammar.specs.Prelude.{Cursor, Item, Mode, Tokens, Taken, ask, later, Library, Gives, leads, BeginsWith}
 use Rattle.rhai_grammar.specs.Prelude.{latest_first, Use}
@@ -30,7 +30,7 @@ stood s library captured peeked =
 abbrev pub taking_to : Mode → State → State
 taking_to mode s = record (after_take s) { mode = mode }
 
--- the same functions have ended, and the same names were used
+-- the same functions have ended, and the same names were captured
 abbrev pub Agree : State → State → Type 0
 Agree r s = (r.point.library ≡ s.point.library) × (r.point.captured ≡ s.point.captured)
 
@@ -123,7 +123,7 @@ pub look : {A : Type 0} (f : Item → Run A) (s : State)
 look f s = still _ (f (next_item s)) s s.point.library s.point.captured true (λ p. refl)
     (λ w taken begins. ap (λ i. f i (placed (after_peek s) w taken)) (begins refl))
 
--- where others have ended, and others were used
+-- where others have ended, and others were captured
 pub turn : {A : Type 0} (f : Library → List Use → Run A) (l : Library → Library) (us : List Use → List Use) (s : State)
     → Kept (λ w. f w.point.library w.point.captured (stood w (l w.point.library) (us w.point.captured) w.peeked)) s
     (stood s (l s.point.library) (us s.point.captured) s.peeked) (f s.point.library s.point.captured)
