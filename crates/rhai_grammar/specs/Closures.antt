@@ -32,8 +32,8 @@ closure_name n = codes "anon$" ++ last_hex_digits 16 n
 
 -- ---- where it stands
 
--- A closure begins at the level around it, under the same limit, and its body is one level deeper. The body may have `|`
--- as an operator, and knows the live imports around it, but not their numbers.
+-- A closure begins at the level around it, under the same limit, and its body is one level deeper. The body may have
+-- `|` as an operator, and knows the live imports around it, but not their numbers.
 abbrev pub in_closure : Context → Live → Context
 in_closure context live = record context {
   settings = closure_settings context.settings context.options;

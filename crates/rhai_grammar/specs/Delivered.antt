@@ -7,7 +7,6 @@ use Rattle.rhai_lower.specs.Lexemes.{Lexeme, Faulty, Sign, NoMemory, Name}
 use Rattle.rhai_lower.specs.declared.position.Position.{Position}
 use Rattle.rhai_lower.specs.declared.token.Token.TheVariants.{EOF, Plus}
 use Rattle.rhai_lower.specs.Names.{is_identifier}
-use Rattle.rhai_lower.specs.Lexemes as lexeme
 
 -- The mode in which a token is requested: text mode after a block of an interpolated string, otherwise code mode.
 pub data Mode : Type 0 where

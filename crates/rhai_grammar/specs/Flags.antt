@@ -94,9 +94,11 @@ all_but_strict_var = 191
 abbrev pub expression_options : ℕ
 expression_options = 179
 
+-- Each set of bits is the sum of those that it has.
 example : (all_but_global_level + global_level ≡ 255) × (closure_flags ≡ fn_scope + closure_scope)
     × (kept_in_closures ≡ disallow_statements_in_blocks + disallow_unquoted_map_properties)
     × (expression_flags ≡ global_level + disallow_statements_in_blocks)
     × (every_option ≡ if_expr + switch_expr + loop_expr + stmt_expr + anon_fn + looping + strict_var + shadowing)
-    × (all_but_strict_var + strict_var ≡ every_option) × (expression_options + stmt_expr + loop_expr ≡ all_but_strict_var)
+    × (all_but_strict_var + strict_var ≡ every_option)
+    × (expression_options + stmt_expr + loop_expr ≡ all_but_strict_var)
 example = (refl, refl, refl, refl, refl, refl, refl)

@@ -41,7 +41,8 @@ holding library s = record s { library = library }
 
 -- under these flags and options, and the engine's default depth limit
 abbrev pub under : (flags options : ℕ) → Context
-under flags options = record (depth 64) { settings = record { flags = flags; options = options; level = 0; limit = 64 } }
+under flags options =
+    record (depth 64) { settings = record { flags = flags; options = options; level = 0; limit = 64 } }
 
 -- at the global level
 abbrev pub on_global_level : Context
