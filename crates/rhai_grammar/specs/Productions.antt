@@ -63,9 +63,9 @@ due t rest = take (is_due t) (not_due t) (λ _ at. rest)
 abbrev pub name : {A : Type 0} → (Text → Position → Production A) → Production A
 name rest = take is_name no_variable (λ token at. rest (text_of token) at)
 
--- this is refused, whatever follows
+-- This is refused, whatever follows. What would be written after it is refused for the same cause.
 abbrev pub stop : {A : Type 0} → Refusal → Production A
-stop why = must false why (never (λ _. cause.UnexpectedEOF))
+stop why = must false why (never (λ _. why.cause))
 
 abbrev pub unless : {A : Type 0} → Bool → Refusal → Production A → Production A
 unless b why rest = must (not b) why rest
