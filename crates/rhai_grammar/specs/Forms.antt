@@ -168,8 +168,7 @@ module _ (rule : (g : Goal) → Production (Val g)) where
         ▸ Tok text (item (Sign token.EOF) nowhere) text_or ▸ Nothing
 
   abbrev mutual
-    -- how deeply the readers that count are nested for it at least, as the reading program calls them: the reader of a
-    -- closure's body, which counts, is left out
+    -- how deeply the readers that count are nested for it, as the reading program calls them
     pub depth : {g : Goal} {x : Val g} → Form g x → ℕ
     depth (form f) = depth_in f
 
@@ -188,5 +187,5 @@ module _ (rule : (g : Goal) → Production (Val g)) where
     depth_in (captures f) = depth_in f
     depth_in (part {g = g} v f rest) = max (counted (is_counted g) (depth f)) (depth_in rest)
     depth_in (literal v f rest) = max (1 + depth f) (depth_in rest)
-    depth_in (apart v us n f rest) = max (depth f) (depth_in rest)
+    depth_in (apart {g = g} v us n f rest) = max (counted (is_counted g) (depth f)) (depth_in rest)
     depth_in (in_text closing l at f) = depth_in f

@@ -1,9 +1,9 @@
 -- Complete: where a form of a production is met, its tree is read.
-use Rattle.std.proofs.Common.{◌≡◌, ℕ, max, Bool, true, false, Some, None, refl, sym, subst, arith, if◌then◌else◌}
+use Rattle.std.proofs.Common.{◌≡◌, ℕ, max, Bool, true, false, List, Some, None, refl, sym, subst, arith, if◌then◌else◌}
 use Rattle.rhai_grammar.specs.Prelude.{Lexeme, Position, Refusal, refusal, Item, item, code, text, Fine, Blames}
 use Rattle.rhai_grammar.specs.Prelude.{Otherwise, Demands, Nothing, Met, is_memory, Point, past, next_at, adding}
-use Rattle.rhai_grammar.specs.Prelude.{capturing, with_captured, apart, closure_count}
-use Rattle.rhai_reading.specs.Reading.{Goal, Val, Prog, Ret, Fail, Peek, Take, Know, Call, body}
+use Rattle.rhai_grammar.specs.Prelude.{Use, capturing, with_captured, apart, closure_count}
+use Rattle.rhai_reading.specs.Reading.{Goal, Val, Prog, Ret, Fail, Peek, Take, Know, Call, CallApart, body}
 use Rattle.rhai_grammar.specs.Goals.{is_counted}
 use Rattle.rhai_reading.proofs.Reaches as R
 use Rattle.rhai_reading.proofs.Reaches.{Reaches}
@@ -46,6 +46,15 @@ part_of : {A : Type 0} (g : Goal) (c : Bool) → is_counted g ≡ c → (d e : �
     → Reaches (λ z. max (max (F.counted c d) e) z) (Call g q) s b x k t
 part_of g true is d e q r rest = R.enough (λ z. omega arith) (R.deeper {E = λ z. max e z} d is r rest)
 part_of g false is d e q r rest = R.enough (λ z. omega arith) (R.part {D = λ z. max d z} {E = λ z. max e z} r rest)
+
+-- one in a closure of its own
+apart_of : {A : Type 0} (g : Goal) (c : Bool) → is_counted g ≡ c → (d e : ℕ) (q : Val g → List Use → Prog A) {x : A}
+    {k : Demands} {s t u : Point} {b : Bool} {v : Val g} → Reaches (λ z. max d z) (body g) (apart s) b v Nothing u
+    → ((l : Bool) → Reaches (λ z. max e z) (q v u.captured) (with_captured s.captured u) l x k t)
+    → Reaches (λ z. max (max (F.counted c d) e) z) (CallApart g q) s b x k t
+apart_of g true is d e q r rest = R.enough (λ z. omega arith) (R.apart_deeper {E = λ z. max e z} d {q = q} is r rest)
+apart_of g false is d e q r rest =
+    R.enough (λ z. omega arith) (R.part_apart {D = λ z. max d z} {E = λ z. max e z} {q = q} r rest)
 
 module _ (rule : (g : Goal) → Production (Val g)) (same : (g : Goal) → Agrees histories (run (rule g)) (body g))
     (runs_same : (g : Goal) → Agrees runs (run (rule g)) (body g)) where
@@ -144,9 +153,8 @@ module _ (rule : (g : Goal) → Production (Val g)) (same : (g : Goal) → Agree
         subst (λ w. Reaches (λ z. max e z) (run (q v w (closure_count m.0.library))) u l x k t) (sym m.2.1)
         (subst (λ c. Reaches (λ z. max e z) (run (q v us c)) u l x k t) (sym m.2.0) (filled rest k u t l m.3).new) in
         let r : (b : Bool) → Reaches (λ z. max d z) (run_from (S.apart g q) None) s b x k t = λ b.
-        R.enough (λ z. omega arith) (R.part_apart {D = λ z. max (F.depth rule f) z} {E = λ z. max e z}
-        {q = λ x us. Know (λ fs. run (q x us (closure_count fs)))} (complete f Nothing (apart s) m.0 b m.1) (λ l.
-        R.know (next l))) in
+        apart_of g (is_counted g) refl (F.depth rule f) e (λ x us. Know (λ fs. run (q x us (closure_count fs))))
+        (complete f Nothing (apart s) m.0 b m.1) (λ l. R.know (next l)) in
         record { new = r b; seen = λ n. r true }
     filled (in_text {k = q} {r = Some x} closing l at f) k s t b m =
         let r : (b : Bool) → Reaches (λ z. max (F.depth_in rule f) z) (run_from (S.in_text q) None) s b x k t = λ b.

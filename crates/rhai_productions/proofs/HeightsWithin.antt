@@ -138,10 +138,6 @@ module _ (Ready : Goal → Type 0) (need : Goal → ℕ) where
   one_deeper true d n r h k = omega (arith, h, k)
   one_deeper false d n r h k = omega (arith, h, k)
 
-  not_deeper : (b : Bool) (d n r : ℕ) → d ≤ n → counted b n ≤ r → d ≤ r
-  not_deeper true d n r h k = omega (arith, h, k)
-  not_deeper false d n r h k = omega (arith, h, k)
-
   module _ (rule : (g : Goal) → Production (Val g)) (table : (g : Goal) → Ready g → Holds (need g) (rule g)) where
     -- a form is at most so deep, and others are met after it
     pub record Nested (d r : ℕ) (k : Demands) (t : Point) : Type 0 where
@@ -190,7 +186,7 @@ module _ (Ready : Goal → Type 0) (need : Goal → ℕ) where
           let a = nests f Nothing (M.apart s) m.0 o.0 m.1 in
           let b = nests_in rest r k (with_captured s.captured m.0) t (o.2 v us n) m.3 in
           record {
-            within = max-le (not_deeper (is_counted g) (F.depth rule f) (need g) r a.within o.1) b.within;
+            within = max-le (one_deeper (is_counted g) (F.depth rule f) (need g) r a.within o.1) b.within;
             end = b.end;
             met = b.met;
           }

@@ -8,7 +8,7 @@ use Rattle.rhai_reading.specs.Histories.{Done, Runs}
 use Rattle.rhai_grammar.specs.Goals.{is_counted}
 use Rattle.rhai_reading.specs.Reading.{Goal, Val, Prog, Ret, Peek, Take, TakeText, Know, Add, Note, Call, CallLiteral}
 use Rattle.rhai_reading.specs.Reading.{CallApart, body}
-use Rattle.rhai_reading.proofs.Dives.{Dives, dives_add, dives_apart, dives_call, dives_counted, dives_know}
+use Rattle.rhai_reading.proofs.Dives.{Dives, dives_add, dives_apart, dives_apart_counted, dives_call, dives_counted, dives_know}
 use Rattle.rhai_reading.proofs.Dives.{dives_literal, dives_note, dives_peek, dives_ret, dives_take, dives_text}
 use Rattle.rhai_reading.proofs.Dives.{shallower}
 use Rattle.rhai_reading.proofs.Rules.{runs_add, runs_call, runs_call_apart, runs_call_literal, runs_know, runs_note}
@@ -82,4 +82,14 @@ module _ {A : Type 0} {E : ℕ → ℕ} (d : ℕ) (g : Goal) (is : is_counted g 
   deep_literal k a b = record {
     runs = runs_call_literal g k a.runs b.runs;
     dives = dives_literal d is (omega arith) a.runs a.dives b.dives;
+  }
+
+  -- one in a closure of its own
+  pub deep_apart_counted : (k : Val g → List Use → Prog A) {s t : State} {v : Val g} {o : Outcome A}
+      → Deep (λ z. max d z) (body g) (with_captured [] s) (Done v t)
+      → Deep E (k v t.point.captured) (with_captured s.point.captured t) o
+      → Deep (λ z. E (max (1 + d) z)) (CallApart g k) s o
+  deep_apart_counted k a b = record {
+    runs = runs_call_apart g k a.runs b.runs;
+    dives = dives_apart_counted d is (omega arith) a.runs a.dives b.dives;
   }

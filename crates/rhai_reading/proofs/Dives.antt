@@ -296,25 +296,42 @@ module _ {A : Type 0} {g : Goal} {v : Val g} {s w : State} {D E : ℕ → ℕ} w
         (recast_high (a + y) _ (counted_dives g r (is_counted g) is d le n h u t a z e go k));
   }
 
--- a part in a closure of its own
-pub dives_apart : {A : Type 0} {g : Goal} {v : Val g} {s w : State} {D E : ℕ → ℕ} {q : Val g → List Use → Prog A}
-    → Runs (body g) (H.with_captured [] s) (H.Done v w) → Dives D (body g) (H.with_captured [] s)
-    → Dives E (q v w.point.captured) (H.with_captured s.point.captured w) → Dives (λ z. E (D z)) (CallApart g q) s
-dives_apart {A} {g} {v} {s} {w} {D} {E} {q} runs r on = record {
+-- A part in a closure of its own, whose reader leaves a peak of at least Y.
+apart_by : {A : Type 0} {g : Goal} {v : Val g} {s w : State} {E : ℕ → ℕ} {q : Val g → List Use → Prog A} (Y : ℕ → ℕ)
+    → Runs (body g) (H.with_captured [] s) (H.Done v w)
+    → ((n : ℕ) (h : Goal) (u t : Progress) (a z : ℕ) → rest (H.with_captured [] s) ≡ unnested t → Goes a t.nesting
+    → Above (a + z) t.nesting → High (a + Y z)
+    (if is_counted g then nested (only_less (level n) h u g) t else only_less (level n) h u g t))
+    → Dives E (q v w.point.captured) (H.with_captured s.point.captured w) → Dives (λ z. E (Y z)) (CallApart g q) s
+apart_by {A} {g} {v} {s} {w} {E} {q} Y runs high on = record {
   dives = λ n h u t a z e go k.
       let call = only_less (level n) h u in
       let inner = with_captured [] t in
       let same = ap (λ (r : Rest). record r { captured = [] }) e in
-      then_high v w a (a + D z) (a + E (D z)) _ (λ x i. exec call (q x i.captured) (with_captured t.captured i))
-      (λ i f go k. subst (λ us. High (a + E (D z)) (exec call (q v us) (with_captured t.captured i)))
+      then_high v w a (a + Y z) (a + E (Y z)) _ (λ x i. exec call (q x i.captured) (with_captured t.captured i))
+      (λ i f go k. subst (λ us. High (a + E (Y z)) (exec call (q v us) (with_captured t.captured i)))
       (ap (λ (r : Rest). r.captured) f)
-      (on.dives n h u (with_captured t.captured i) a (D z)
+      (on.dives n h u (with_captured t.captured i) a (Y z)
       (ap (λ (r : Rest). record r { captured = s.point.captured }) f
       ∙ ap (λ (r : Rest). record (unnested i) { captured = r.captured }) e) go k))
       (called_gives g runs (is_counted g) n h u inner same)
       (call_grows call (all_grow n h u) g (is_counted g) a 0 inner (go_on a t.nesting go))
-      (called_dives g r (is_counted g) n h u inner a z same go k);
+      (high n h u inner a z same go k);
 }
+
+module _ {A : Type 0} {g : Goal} {v : Val g} {s w : State} {D E : ℕ → ℕ} {q : Val g → List Use → Prog A} where
+  -- such a part
+  pub dives_apart : Runs (body g) (H.with_captured [] s) (H.Done v w) → Dives D (body g) (H.with_captured [] s)
+      → Dives E (q v w.point.captured) (H.with_captured s.point.captured w) → Dives (λ z. E (D z)) (CallApart g q) s
+  dives_apart runs r on = apart_by D runs (called_dives g r (is_counted g)) on
+
+  -- one whose reader is one deeper
+  pub dives_apart_counted : (d : ℕ) → is_counted g ≡ true → d ≤ D 0
+      → Runs (body g) (H.with_captured [] s) (H.Done v w) → Dives D (body g) (H.with_captured [] s)
+      → Dives E (q v w.point.captured) (H.with_captured s.point.captured w)
+      → Dives (λ z. E (max (1 + d) z)) (CallApart g q) s
+  dives_apart_counted d is le runs r on =
+      apart_by (λ z. max (1 + d) z) runs (counted_dives g r (is_counted g) is d le) on
 
 -- ---- the reader of the code
 
