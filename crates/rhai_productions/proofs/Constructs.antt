@@ -15,6 +15,7 @@ use Rattle.rhai_reading.specs.Reading.{body}
 use Rattle.rhai_productions.specs.Numbered.{Leaves}
 use Rattle.rhai_productions.specs.Quiet.{Off, Outside, Quiet}
 use Rattle.rhai_productions.specs.Readers.{run}
+use Rattle.rhai_productions.specs.Shaped.{at_level}
 use Rattle.rhai_productions.specs.Tidiness.{Tidy}
 use Rattle.rhai_productions.proofs.HeightsOfOperands.{HoldsIn}
 use Rattle.rhai_productions.proofs.HeightsWithin.{Limits, in_loops, room}
@@ -133,17 +134,17 @@ numbers_of_construct c w at kind.For n = λ ns m i x o h b q k.
 numbers_of_construct c w at kind.Try n = λ b m h name o i handler q k.
     ((h, trees.catches name, subst (λ ms. WellNumberedBlock ms handler) (trees.handled name w) k), refl)
 
--- at other positions they give trees of the same shape
-pub shape_of_construct : (c : Context) (w : Live) (at pos : Position) (k : Kind) → LikeIn OnStatements (P.construct c w at k)
-    (P.construct c w pos k)
-shape_of_construct c w at pos kind.Block = (blocks refl, λ a b e. ap node.block_statement e)
-shape_of_construct c w at pos kind.If = (conditionals, λ f g e. e)
-shape_of_construct c w at pos kind.Switch =
+-- at other positions and levels they give trees of the same shape
+pub shape_of_construct : (c : Context) (n : ℕ) (w : Live) (at pos : Position) (k : Kind) → LikeIn OnStatements
+    (P.construct c w at k) (P.construct (at_level n c) w pos k)
+shape_of_construct c n w at pos kind.Block = (blocks refl, λ a b e. ap node.block_statement e)
+shape_of_construct c n w at pos kind.If = (conditionals, λ f g e. e)
+shape_of_construct c n w at pos kind.Switch =
     (expressions_, λ x y e l p q. (arm_lists refl, λ a b d. switch_so x y a b at pos e d))
-shape_of_construct c w at pos kind.While = (guards, λ x y e. (braced_blocks refl, λ a b d. cc))
-shape_of_construct c w at pos kind.Loop = (braced_blocks refl, λ a b d. cc)
-shape_of_construct c w at pos kind.Do = (braced_blocks refl, λ a b d. (do_ends, λ m n f. (guards, λ x y e. cc)))
-shape_of_construct c w at pos kind.For = (
+shape_of_construct c n w at pos kind.While = (guards, λ x y e. (braced_blocks refl, λ a b d. cc))
+shape_of_construct c n w at pos kind.Loop = (braced_blocks refl, λ a b d. cc)
+shape_of_construct c n w at pos kind.Do = (braced_blocks refl, λ a b d. (do_ends, λ u v f. (guards, λ x y e. cc)))
+shape_of_construct c n w at pos kind.For = (
   variables,
   λ ns ms f. (
     iterated_,
@@ -154,13 +155,13 @@ shape_of_construct c w at pos kind.For = (
     ),
   ),
 )
-shape_of_construct c w at pos kind.Try = (
+shape_of_construct c n w at pos kind.Try = (
   braced_blocks refl,
   λ a b d. (
     catches,
-    λ m n f. (
-      braced_blocks (ap (λ t. catch_live t w) (catch_so m n f).0),
-      λ x y e. (let g = (catch_so m n f).1 in cc),
+    λ u v f. (
+      braced_blocks (ap (λ t. catch_live t w) (catch_so u v f).0),
+      λ x y e. (let g = (catch_so u v f).1 in cc),
     ),
   ),
 )

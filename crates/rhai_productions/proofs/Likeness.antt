@@ -1,5 +1,5 @@
--- When productions are alike up to positions, and what follows for their forms.
-use Rattle.std.proofs.Common.{◌≡◌, ℕ, List, subst}
+-- When productions are alike up to positions and levels, and what follows for their forms.
+use Rattle.std.proofs.Common.{◌≡◌, ℕ, List, subst, sym}
 use Rattle.rhai_grammar.specs.Prelude.{Lexeme, Position, Use, names_of}
 use Rattle.rhai_reading.specs.Reading.{Goal, Val}
 use Rattle.rhai_grammar.specs.Productions as S
@@ -8,7 +8,6 @@ use Rattle.rhai_grammar.specs.Forms as F
 use Rattle.rhai_grammar.specs.Forms.{given, take, this, if_so, if_not, choose, here, must, knows, adds, uses}
 use Rattle.rhai_grammar.specs.Forms.{captures, part, literal, apart, in_text, form}
 use Rattle.rhai_productions.specs.Shaped as Z
-use Rattle.rhai_productions.specs.Shaped.{Code}
 
 module _ (Near : Goal → Goal → Type 0) (Equal : (g h : Goal) → Near g h → Val g → Val h → Type 0) where
   abbrev pub Like : {A B : Type 0} → (A → B → Type 0) → Production A → Production B → Type 0
@@ -37,56 +36,36 @@ module _ (Near : Goal → Goal → Type 0) (Equal : (g h : Goal) → Near g h �
       → Like (Equal g h a) (rule g) (rule h)) where
     mutual
       pub keeps : {g : Goal} {x : Val g} (f : F.Form rule g x) (h : Goal) (y : Val h) (e : F.Form rule h y)
-          (a : Near g h) → Z.shape rule f ≡ Z.shape rule e → Equal g h a x y
+          (a : Near g h) → Z.Alike rule f e → Equal g h a x y
       keeps (form {g = g} f) h y (form e) a same = kept f h (rule h) y e a (like g h a) same
 
       kept : {g : Goal} {p : Production (Val g)} {x : Val g} (f : F.Filled rule g p x) (h : Goal)
           (q : Production (Val h)) (y : Val h) (e : F.Filled rule h q y) (a : Near g h) → Like (Equal g h a) p q
-          → Z.shape_in rule f ≡ Z.shape_in rule e → Equal g h a x y
+          → Z.AlikeIn rule f e → Equal g h a x y
       kept given h q y given a r same = r
       kept (take {h = g} {k = i} l at f) h q y (take {k = j} m pos e) a r same =
-          let ea : l ≡ m = cc in
-          let eb : Z.shape_in rule f ≡ Z.shape_in rule e = cc in
-          kept f h (j m pos) y e a (subst (λ n. Like (Equal g h a) (i l at) (j n pos)) ea (r l at pos)) eb
+          kept f h (j m pos) y e a (subst (λ n. Like (Equal g h a) (i l at) (j n pos)) same.0 (r l at pos)) same.1
       kept (this {h = g} {k = i} l at f) h q y (this {k = j} m pos e) a r same =
-          let ea : l ≡ m = cc in
-          let eb : Z.shape_in rule f ≡ Z.shape_in rule e = cc in
-          kept f h (j m pos) y e a (subst (λ n. Like (Equal g h a) (i l at) (j n pos)) ea (r l at pos)) eb
+          kept f h (j m pos) y e a (subst (λ n. Like (Equal g h a) (i l at) (j n pos)) same.0 (r l at pos)) same.1
       kept (choose {h = g} {v = v} {k = i} l at f) h q y (choose {v = w} {k = j} m pos e) a r same =
-          let ea : l ≡ m = cc in
-          let eb : Z.shape_in rule f ≡ Z.shape_in rule e = cc in
-          kept f h (j (view w m)) y e a (subst (λ n. Like (Equal g h a) (i (view v l)) (j (view w n))) ea (r l)) eb
+          kept f h (j (view w m)) y e a
+          (subst (λ n. Like (Equal g h a) (i n) (j (view w m))) (sym same.0) (r m)) same.1
       kept (uses {h = g} {v = v} {k = i} l at f) h q y (uses {v = w} {k = j} m pos e) a r same =
-          let ea : l ≡ m = cc in
-          let eb : Z.shape_in rule f ≡ Z.shape_in rule e = cc in
-          kept f h (j (w m)) y e a (subst (λ n. Like (Equal g h a) (i (v l)) (j (w n))) ea (r l)) eb
-      kept (if_so f) h q y (if_so {p = o} e) a r same = let eb : Z.shape_in rule f ≡ Z.shape_in rule e = cc in
-          kept f h o y e a r.0 eb
-      kept (if_not f) h q y (if_not {q = o} e) a r same = let eb : Z.shape_in rule f ≡ Z.shape_in rule e = cc in
-          kept f h o y e a r.1 eb
-      kept (if_so f) h q y (if_not e) a r same = absurd cc
-      kept (if_not f) h q y (if_so e) a r same = absurd cc
+          kept f h (j (w m)) y e a (subst (λ n. Like (Equal g h a) (i n) (j (w m))) (sym same.0) (r m)) same.1
+      kept (if_so f) h q y (if_so {p = o} e) a r same = kept f h o y e a r.0 same
+      kept (if_not f) h q y (if_not {q = o} e) a r same = kept f h o y e a r.1 same
       kept (here l at f) h q y (here {k = j} m pos e) a r same = kept f h (j pos) y e a (r at pos) same
       kept (must f) h q y (must {p = o} e) a r same = kept f h o y e a r same
       kept (knows f) h q y (knows {p = o} e) a r same = kept f h o y e a r same
       kept (adds f) h q y (adds {p = o} e) a r same = kept f h o y e a r same
       kept (captures f) h q y (captures {p = o} e) a r same = kept f h o y e a r same
       kept (part v f rest) h q y (part {g = o} {k = j} w e more) a r same =
-          let ea : Z.shape rule f ≡ Z.shape rule e = cc in
-          let eb : Z.shape_in rule rest ≡ Z.shape_in rule more = cc in
-          kept rest h (j w) y more a (r.1 v w (keeps f o w e r.0 ea)) eb
+          kept rest h (j w) y more a (r.1 v w (keeps f o w e r.0 same.0)) same.1
       kept (literal v f rest) h q y (literal {g = o} {k = j} w e more) a r same =
-          let ea : Z.shape rule f ≡ Z.shape rule e = cc in
-          let eb : Z.shape_in rule rest ≡ Z.shape_in rule more = cc in
-          kept rest h (j w) y more a (r.1 v w (keeps f o w e r.0 ea)) eb
+          kept rest h (j w) y more a (r.1 v w (keeps f o w e r.0 same.0)) same.1
       kept (apart v us n f rest) h q y (apart {g = o} {k = j} w vs m e more) a r same =
-          let ea : Z.shape rule f ≡ Z.shape rule e = cc in
-          let eb : Z.shape_in rule rest ≡ Z.shape_in rule more = cc in
-          let ec : names_of us ≡ names_of vs = cc in
-          let ed : n ≡ m = cc in
-          kept rest h (j w vs m) y more a (r.1 v w us vs n m (keeps f o w e r.0 ea) ec ed) eb
+          kept rest h (j w vs m) y more a (r.1 v w us vs n m (keeps f o w e r.0 same.2) same.0 same.1) same.3
       kept (in_text {h = g} {k = i} c l at f) h q y (in_text {k = j} d m pos e) a r same =
-          let ea : l ≡ m = cc in
-          let eb : Z.shape_in rule f ≡ Z.shape_in rule e = cc in
-          kept f h (j d m pos) y e a (subst (λ n. Like (Equal g h a) (i c l at) (j d n pos)) ea (r c d l at pos)) eb
-      kept f h q y e a r same = absurd r
+          kept f h (j d m pos) y e a (subst (λ n. Like (Equal g h a) (i c l at) (j d n pos)) same.0 (r c d l at pos))
+          same.1
+      kept f h q y e a r same = absurd same

@@ -1,5 +1,5 @@
--- Productions of operands, calls and lists are alike up to positions. Each lemma is of the rule of its name, and goes
--- by cases of what the next token decides.
+-- Productions of operands, calls and lists are alike up to positions and levels. Each lemma is of the rule of its name,
+-- and goes by cases of what the next token decides.
 use Rattle.std.proofs.Common.{◌≡◌, ℕ, Bool, true, false, List, Option, Some, None, refl, ap, ◌∙◌, sym, if◌then◌else◌}
 use Rattle.std.specs.Prelude.{option_map}
 use Rattle.rhai_lower.specs.Nodes as node
@@ -28,6 +28,7 @@ use Rattle.rhai_grammar.specs.Strengths.{continues}
 use Rattle.rhai_grammar.specs.Productions.{Production, stop}
 use Rattle.rhai_grammar.specs.Rules as P
 use Rattle.rhai_grammar.specs.Rules.{production}
+use Rattle.rhai_productions.specs.Shaped.{at_level}
 use Rattle.rhai_productions.proofs.Likeness.{Like}
 use Rattle.rhai_productions.proofs.NearGoals.{Near, Equal, expressions_, operands, rights, primaries, calleds, chains_}
 use Rattle.rhai_productions.proofs.NearGoals.{indices, members, postfixes, argument_lists, element_lists, field_lists}
@@ -56,83 +57,87 @@ OnStatements x y = statement_shape x ≡ statement_shape y
 abbrev pub OnBoth : node.Statement × Live → node.Statement × Live → Type 0
 OnBoth x y = (statement_shape x.0 ≡ statement_shape y.0) × (x.1 ≡ y.1)
 
-pub operand : (c : Context) (w : Live) (v : Beginning) → LikeIn OnNodes (P.operand_by c w v) (P.operand_by c w v)
-operand c w begin.Sign = λ l at pos. (operands, λ x y e. signed_so l at pos x y e)
-operand c w _ = (primaries, λ x y e. (postfixes e, λ a b d. (chains_ refl, λ ls ms f. chained_so a b ls ms d f)))
+pub operand : (c : Context) (n : ℕ) (w : Live) (v : Beginning) → LikeIn OnNodes (P.operand_by c w v)
+    (P.operand_by (at_level n c) w v)
+operand c n w begin.Sign = λ l at pos. (operands, λ x y e. signed_so l at pos x y e)
+operand c n w _ = (primaries, λ x y e. (postfixes e, λ a b d. (chains_ refl, λ ls ms f. chained_so a b ls ms d f)))
 
-pub right : (c : Context) (w : Live) (v : OperandStart) → LikeIn OnNodes (P.right_by c w v) (P.right_by c w v)
-right c w first.Omitted = λ at pos. refl
-right c w first.Jump = (statements_, λ f g e. value_so f.0 g.0 e.0)
-right c w first.Written = (operands, λ x y e. e)
+pub right : (c : Context) (n : ℕ) (w : Live) (v : OperandStart) → LikeIn OnNodes (P.right_by c w v)
+    (P.right_by (at_level n c) w v)
+right c n w first.Omitted = λ at pos. refl
+right c n w first.Jump = (statements_, λ f g e. value_so f.0 g.0 e.0)
+right c n w first.Written = (operands, λ x y e. e)
 
-pub primary : (c : Context) (w : Live) (v : Beginning) → LikeIn OnNodes (P.primary_by c w v) (P.primary_by c w v)
-primary c w begin.Value = λ l at pos. value l at ∙ sym (value l pos)
-primary c w begin.Name = λ l at pos m. refl
-primary c w begin.Word = λ l at pos. (refl, like_if OnNodes (is_this (text_of l)) _ _ _ _ refl tt)
-primary c w begin.Group = λ l at pos. (expressions_, λ x y e m p q. e)
-primary c w begin.Array = λ l at pos. (element_lists refl, λ a b e. ap (λ ns. node.array ns nowhere) e)
-primary c w begin.Map = λ l at pos. (field_lists refl, λ a b e. ap (λ ns. node.object_map ns nowhere) e)
-primary c w begin.Interpolated = λ l at pos. (
+pub primary : (c : Context) (n : ℕ) (w : Live) (v : Beginning) → LikeIn OnNodes (P.primary_by c w v)
+    (P.primary_by (at_level n c) w v)
+primary c n w begin.Value = λ l at pos. value l at ∙ sym (value l pos)
+primary c n w begin.Name = λ l at pos m. refl
+primary c n w begin.Word = λ l at pos. (refl, like_if OnNodes (is_this (text_of l)) _ _ _ _ refl tt)
+primary c n w begin.Group = λ l at pos. (expressions_, λ x y e m p q. e)
+primary c n w begin.Array = λ l at pos. (element_lists refl, λ a b e. ap (λ ns. node.array ns nowhere) e)
+primary c n w begin.Map = λ l at pos. (field_lists refl, λ a b e. ap (λ ns. node.object_map ns nowhere) e)
+primary c n w begin.Interpolated = λ l at pos. (
   segment_lists (text_added no_nodes no_nodes (text_of l) at pos refl),
   λ a b e.
       ap (λ ns. node.interpolated ns nowhere) e,
 )
-primary c w (begin.Construct kind) = like_if OnNodes (may_be_value c kind) _ _ _ _ (λ l at pos.
+primary c n w (begin.Construct kind) = like_if OnNodes (may_be_value c kind) _ _ _ _ (λ l at pos.
     (constructs, λ f g e. value_so f g e)) tt
-primary c w (begin.Closure by) = like_if OnNodes (may_be_closure c by) _ _ _ _ (λ l at pos. (closures, λ x y e. e)) tt
-primary c w begin.Sign = tt
-primary c w begin.Range = λ at pos. refl
-primary c w begin.Nothing = tt
+primary c n w (begin.Closure by) = like_if OnNodes (may_be_closure c by) _ _ _ _ (λ l at pos. (closures, λ x y e. e)) tt
+primary c n w begin.Sign = tt
+primary c n w begin.Range = λ at pos. refl
+primary c n w begin.Nothing = tt
 
 abbrev pub OnCalls : Bool × Nodes → Bool × Nodes → Type 0
 OnCalls x y = (x.0 ≡ y.0) × (nodes_shape x.1 ≡ nodes_shape y.1)
 
-pub bang : (c : Context) (w : Live) (at pos : Position) (v : Calling) → LikeIn OnCalls (P.bang_by c w at v)
-    (P.bang_by c w pos v)
-bang c w at pos calls_by.Pair = λ l p q. (refl, refl)
-bang c w at pos calls_by.List = λ l p q. (argument_lists, λ a b e. (refl, e))
-bang c w at pos calls_by.Bang = tt
-bang c w at pos calls_by.Nothing = tt
+pub bang : (c : Context) (n : ℕ) (w : Live) (at pos : Position) (v : Calling) → LikeIn OnCalls (P.bang_by c w at v)
+    (P.bang_by (at_level n c) w pos v)
+bang c n w at pos calls_by.Pair = λ l p q. (refl, refl)
+bang c n w at pos calls_by.List = λ l p q. (argument_lists, λ a b e. (refl, e))
+bang c n w at pos calls_by.Bang = tt
+bang c n w at pos calls_by.Nothing = tt
 
-pub called : (c : Context) (w : Live) (at pos : Position) (i j : Bool) (v : Calling) → LikeIn OnCalls
-    (P.called_by c w at i v) (P.called_by c w pos j v)
-called c w at pos i j calls_by.Pair = λ l p q. (refl, refl)
-called c w at pos i j calls_by.List = λ l p q. (argument_lists, λ a b e. (refl, e))
-called c w at pos i j calls_by.Nothing = (refl, refl)
-called c w at pos i j calls_by.Bang = λ l p q m. bang c w at pos (calling m)
+pub called : (c : Context) (n : ℕ) (w : Live) (at pos : Position) (i j : Bool) (v : Calling) → LikeIn OnCalls
+    (P.called_by c w at i v) (P.called_by (at_level n c) w pos j v)
+called c n w at pos i j calls_by.Pair = λ l p q. (refl, refl)
+called c n w at pos i j calls_by.List = λ l p q. (argument_lists, λ a b e. (refl, e))
+called c n w at pos i j calls_by.Nothing = (refl, refl)
+called c n w at pos i j calls_by.Bang = λ l p q m. bang c n w at pos (calling m)
 
-pub call_like : (c : Context) (w : Live) (x y : Node) → node_shape x ≡ node_shape y → LikeIn OnNodes (P.call_of c w x)
-    (P.call_of c w y)
-call_like c w x y e = ((calleds, λ a b d. call_so x y a.0 b.0 a.1 b.1 e d.0 d.1), e)
+pub call_like : (c : Context) (n : ℕ) (w : Live) (x y : Node) → node_shape x ≡ node_shape y → LikeIn OnNodes
+    (P.call_of c w x) (P.call_of (at_level n c) w y)
+call_like c n w x y e = ((calleds, λ a b d. call_so x y a.0 b.0 a.1 b.1 e d.0 d.1), e)
 
 abbrev pub OnLinks : List Link → List Link → Type 0
 OnLinks x y = link_shapes x ≡ link_shapes y
 
-pub dotted : (w : Live) (c b : Context) (i j : Option Node) (ls ms : List Link) → link_shapes ls ≡ link_shapes ms
-    → (l : Lexeme) (at pos : Position) (v : MemberRole) → LikeIn OnLinks
+pub dotted : (w : Live) (c b : Context) (n m : ℕ) (i j : Option Node) (ls ms : List Link) → link_shapes ls
+    ≡ link_shapes ms → (l : Lexeme) (at pos : Position) (v : MemberRole) → LikeIn OnLinks
     (P.dotted_by w (record { settings = c; brackets = b; indexed = i; before = ls }) l at v)
-    (P.dotted_by w (record { settings = c; brackets = b; indexed = j; before = ms }) l pos v)
-dotted w c b i j ls ms e l at pos AMember = (
+    (P.dotted_by w (record { settings = at_level n c; brackets = at_level m b; indexed = j; before = ms }) l pos v)
+dotted w c b n m i j ls ms e l at pos AMember = (
   members,
   λ x y d. (
     chains_ (link_so ls ms (member_link l at x) (member_link l pos y) e (cc)),
-    λ m n f. f,
+    λ o p f. f,
   ),
 )
-dotted w c b i j ls ms e l at pos (NoMember why) = tt
+dotted w c b n m i j ls ms e l at pos (NoMember why) = tt
 
-pub links : (w : Live) (c b : Context) (i j : Option Node) (ls ms : List Link) → link_shapes ls ≡ link_shapes ms
-    → (v : Linking) → LikeIn OnLinks (P.links_by w (record { settings = c; brackets = b; indexed = i; before = ls }) v)
-    (P.links_by w (record { settings = c; brackets = b; indexed = j; before = ms }) v)
-links w c b i j ls ms e link.Bracket = λ l at pos. (
+pub links : (w : Live) (c b : Context) (n m : ℕ) (i j : Option Node) (ls ms : List Link) → link_shapes ls ≡ link_shapes
+    ms → (v : Linking) → LikeIn OnLinks
+    (P.links_by w (record { settings = c; brackets = b; indexed = i; before = ls }) v)
+    (P.links_by w (record { settings = at_level n c; brackets = at_level m b; indexed = j; before = ms }) v)
+links w c b n m i j ls ms e link.Bracket = λ l at pos. (
   indices,
   λ x y d. (
     chains_ (link_so ls ms (bracket_link l at x) (bracket_link l pos y) e (cc)),
-    λ m n f. f,
+    λ o p f. f,
   ),
 )
-links w c b i j ls ms e link.Dot = λ l at pos m. dotted w c b i j ls ms e l at pos (member_role m)
-links w c b i j ls ms e link.Nothing = e
+links w c b n m i j ls ms e link.Dot = λ l at pos o. dotted w c b n m i j ls ms e l at pos (member_role o)
+links w c b n m i j ls ms e link.Nothing = e
 
 pub parted : {A B : Type 0} (Q : A → B → Type 0) (parts : CommaList) (on end : Production A) (go stop : Production B)
     (v : AfterPart) → LikeIn Q on go → LikeIn Q end stop → LikeIn Q (P.parted parts on end v) (P.parted parts go stop v)
@@ -140,19 +145,19 @@ parted Q parts on end go stop after.Comma g h = λ l at pos. g
 parted Q parts on end go stop after.Close g h = λ l at pos. h
 parted Q parts on end go stop after.Nothing g h = tt
 
-pub element : (c : Context) (w : Live) (at pos : Position) (a b : Nodes) → nodes_shape a ≡ nodes_shape b
-    → (v : ItemRole) → LikeIn OnLists (P.element_by c w at a v) (P.element_by c w pos b v)
-element c w at pos a b e place.End = λ l p q. e
-element c w at pos a b e place.Item = (
+pub element : (c : Context) (n : ℕ) (w : Live) (at pos : Position) (a b : Nodes) → nodes_shape a ≡ nodes_shape b
+    → (v : ItemRole) → LikeIn OnLists (P.element_by c w at a v) (P.element_by (at_level n c) w pos b v)
+element c n w at pos a b e place.End = λ l p q. e
+element c n w at pos a b e place.Item = (
   expressions_,
   λ x y d l.
       parted OnLists lists.Array _ _ _ _ (after_part lists.Array l) (
         element_lists (node_added a b x y e d),
-        λ m n f.
+        λ i j f.
             f,
       ) (node_added a b x y e d),
 )
-element c w at pos a b e place.Nothing = tt
+element c n w at pos a b e place.Nothing = tt
 
 abbrev pub OnFields : Properties → Properties → Type 0
 OnFields x y = properties_shape x ≡ properties_shape y
@@ -160,23 +165,25 @@ OnFields x y = properties_shape x ≡ properties_shape y
 abbrev pub OnKeys : Option (Text × Position) → Option (Text × Position) → Type 0
 OnKeys x y = option_map (λ k. k.0) x ≡ option_map (λ k. k.0) y
 
-pub key : (c : Context) (a b : Properties) (v : KeyRole) → LikeIn OnKeys (P.key_by c a v) (P.key_by c b v)
-key c a b FieldsEnd = λ l p q. refl
-key c a b (AKey k) = λ l p q m r s. (tt, refl)
-key c a b (NoKey why) = tt
+pub key : (c : Context) (n : ℕ) (a b : Properties) (v : KeyRole) → LikeIn OnKeys (P.key_by c a v)
+    (P.key_by (at_level n c) b v)
+key c n a b FieldsEnd = λ l p q. refl
+key c n a b (AKey k) = λ l p q m r s. (tt, refl)
+key c n a b (NoKey why) = tt
 
-pub field : (c : Context) (w : Live) (at pos : Position) (a b : Properties) → properties_shape a ≡ properties_shape b
-    → (v u : Option (Text × Position)) → OnKeys v u → LikeIn OnFields (P.field_by c w at a v) (P.field_by c w pos b u)
-field c w at pos a b e None None k = e
-field c w at pos a b e None (Some u) k = absurd cc
-field c w at pos a b e (Some v) None k = absurd cc
-field c w at pos a b e (Some v) (Some u) k = (
+pub field : (c : Context) (n : ℕ) (w : Live) (at pos : Position) (a b : Properties) → properties_shape a
+    ≡ properties_shape b → (v u : Option (Text × Position)) → OnKeys v u → LikeIn OnFields (P.field_by c w at a v)
+    (P.field_by (at_level n c) w pos b u)
+field c n w at pos a b e None None k = e
+field c n w at pos a b e None (Some u) k = absurd cc
+field c n w at pos a b e (Some v) None k = absurd cc
+field c n w at pos a b e (Some v) (Some u) k = (
   expressions_,
   λ x y d l.
       let t : v.0 ≡ u.0 = cc in
       let f : OnFields (with_property a v.0 v.1 x) (with_property b u.0 u.1 y) =
       ap (λ s. properties_shape (with_property a s v.1 x)) t ∙ property_added a b u.0 v.1 u.1 x y e d in
-      parted OnFields lists.Map _ _ _ _ (after_part lists.Map l) (field_lists f, λ m n g. g) f,
+      parted OnFields lists.Map _ _ _ _ (after_part lists.Map l) (field_lists f, λ i j g. g) f,
 )
 
 pub follower : (v : Follower) → LikeIn (λ (x y : Option (ℕ × Bool)). x ≡ y) (P.follower_by v) (P.follower_by v)
@@ -184,9 +191,9 @@ follower (Operator n r) = refl
 follower (Unknown t) = tt
 follower Other = refl
 
-pub binary : (c : Context) (w : Live) (at pos : Position) (p : ℕ) (x y : Node) → node_shape x ≡ node_shape y
-    → (v : Option (ℕ × Bool)) → LikeIn OnNodes (P.binary_of c w at p x v) (P.binary_of c w pos p y v)
-binary c w at pos p x y e None = e
-binary c w at pos p x y e (Some op) = like_if OnNodes (continues p op.0 op.1) _ _ _ _
+pub binary : (c : Context) (n : ℕ) (w : Live) (at pos : Position) (p : ℕ) (x y : Node) → node_shape x ≡ node_shape y
+    → (v : Option (ℕ × Bool)) → LikeIn OnNodes (P.binary_of c w at p x v) (P.binary_of (at_level n c) w pos p y v)
+binary c n w at pos p x y e None = e
+binary c n w at pos p x y e (Some op) = like_if OnNodes (continues p op.0 op.1) _ _ _ _
     (λ l q s.
-    (rights, λ a b d. (followers, λ m n f. (runs_ d, λ r t g. (runs_ (operator_so l q s x y r t e g), λ i j h. h))))) e
+    (rights, λ a b d. (followers, λ u o f. (runs_ d, λ r t g. (runs_ (operator_so l q s x y r t e g), λ i j h. h))))) e

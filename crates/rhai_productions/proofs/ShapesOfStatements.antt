@@ -1,6 +1,7 @@
--- Productions of statements, constructs and functions are alike up to positions.
+-- Productions of statements, constructs and functions are alike up to positions and levels.
 -- Each lemma is of the rule of its name, and goes by cases of what the next token decides.
-use Rattle.std.proofs.Common.{◌≡◌, Bool, true, false, List, [], ◌∷◌, ◌++◌, Option, Some, None, refl, ap, ◌∙◌, sym}
+use Rattle.std.proofs.Common.{◌≡◌, ℕ, Bool, true, false, List, [], ◌∷◌, ◌++◌, Option, Some, None, refl, ap, ◌∙◌}
+use Rattle.std.proofs.Common.{sym}
 use Rattle.std.proofs.Common.{subst, if◌then◌else◌}
 use Rattle.std.specs.Prelude.{unwrap_or}
 use Rattle.rhai_lower.specs.Nodes as node
@@ -35,6 +36,7 @@ use Rattle.rhai_grammar.specs.Productions as S
 use Rattle.rhai_grammar.specs.Productions.{Production, View, view, name, stop}
 use Rattle.rhai_grammar.specs.Rules as P
 use Rattle.rhai_grammar.specs.Rules.{production}
+use Rattle.rhai_productions.specs.Shaped.{at_level}
 use Rattle.rhai_productions.proofs.NearGoals.{expressions_, segment_lists, jumps, evaluations, names_, initializers}
 use Rattle.rhai_productions.proofs.NearGoals.{definitions, imports_, exports, aliases, statements_, statement_lists}
 use Rattle.rhai_productions.proofs.NearGoals.{constructs, arm_lists, arms_, default_arms, comments_}
@@ -43,10 +45,10 @@ use Rattle.rhai_productions.proofs.TreeShapes.{text_added, kept_added, ends_shap
 use Rattle.rhai_productions.proofs.TreeShapes.{default_so, closure_so}
 use Rattle.rhai_productions.proofs.ShapesOfOperands.{LikeIn, OnNodes, OnLists, OnBoth, parted}
 
-pub export : (c : Context) (w : Live) (at pos : Position) (v : Option Bool) → LikeIn OnBoth (P.export_by c w at v)
-    (P.export_by c w pos v)
-export c w at pos (Some constant) = λ l p q. (definitions, λ f g e. e)
-export c w at pos None = λ l p q. (
+pub export : (c : Context) (i : ℕ) (w : Live) (at pos : Position) (v : Option Bool) → LikeIn OnBoth
+    (P.export_by c w at v) (P.export_by (at_level i c) w pos v)
+export c i w at pos (Some constant) = λ l p q. (definitions, λ f g e. e)
+export c i w at pos None = λ l p q. (
   aliases,
   λ m n e. (
     ap (λ o. statement_shape (export_tree (text_of l) o nowhere)) e,
@@ -54,81 +56,83 @@ export c w at pos None = λ l p q. (
   ),
 )
 
-pub documented : (c : Context) (w : Live) (a b : List Comment) (at pos : Position) (v : StatementStart)
-    → LikeIn OnBoth (P.documented_by c w a at v) (P.documented_by c w b pos v)
-documented c w a b at pos start.Function = λ l p q. (function_statements, λ f g e. e)
-documented c w a b at pos start.Private = λ l p q m r s. (function_statements, λ f g e. e)
-documented c w a b at pos _ = tt
+pub documented : (c : Context) (i : ℕ) (w : Live) (a b : List Comment) (at pos : Position) (v : StatementStart)
+    → LikeIn OnBoth (P.documented_by c w a at v) (P.documented_by (at_level i c) w b pos v)
+documented c i w a b at pos start.Function = λ l p q. (function_statements, λ f g e. e)
+documented c i w a b at pos start.Private = λ l p q m r s. (function_statements, λ f g e. e)
+documented c i w a b at pos _ = tt
 
-pub statement : (c : Context) (w : Live) (v : StatementStart) → LikeIn OnBoth (P.statement_by c w v)
-    (P.statement_by c w v)
-statement c w start.Empty = λ l at pos. (refl, refl)
-statement c w (start.Construct kind) = λ l at pos. (constructs, λ f g e. (e, refl))
-statement c w start.Let = λ l at pos. (definitions, λ f g e. e)
-statement c w start.Const = λ l at pos. (definitions, λ f g e. e)
-statement c w start.Return = λ l at pos. (jumps, λ x y e. (ap (λ n. node.return_statement n false nowhere) e, refl))
-statement c w start.Throw = λ l at pos. (jumps, λ x y e. (ap (λ n. node.return_statement n true nowhere) e, refl))
-statement c w start.Break = λ l at pos. (jumps, λ x y e. (ap (λ n. node.break_loop n true nowhere) e, refl))
-statement c w start.Continue = λ l at pos. (refl, refl)
-statement c w start.Import = λ l at pos. (imports_, λ f g e. e)
-statement c w start.Export = λ l at pos. (exports, λ f g e. e)
-statement c w start.Function = λ l at pos. (function_statements, λ f g e. e)
-statement c w start.Private = λ l at pos m p q. (function_statements, λ f g e. e)
-statement c w start.Comment = λ l at pos. (comments_, λ a b e m. documented c w a b at pos (statement_start c m))
-statement c w start.Expression = λ at pos. (evaluations, λ f g e. (e, refl))
+pub statement : (c : Context) (i : ℕ) (w : Live) (v : StatementStart) → LikeIn OnBoth (P.statement_by c w v)
+    (P.statement_by (at_level i c) w v)
+statement c i w start.Empty = λ l at pos. (refl, refl)
+statement c i w (start.Construct kind) = λ l at pos. (constructs, λ f g e. (e, refl))
+statement c i w start.Let = λ l at pos. (definitions, λ f g e. e)
+statement c i w start.Const = λ l at pos. (definitions, λ f g e. e)
+statement c i w start.Return = λ l at pos. (jumps, λ x y e. (ap (λ n. node.return_statement n false nowhere) e, refl))
+statement c i w start.Throw = λ l at pos. (jumps, λ x y e. (ap (λ n. node.return_statement n true nowhere) e, refl))
+statement c i w start.Break = λ l at pos. (jumps, λ x y e. (ap (λ n. node.break_loop n true nowhere) e, refl))
+statement c i w start.Continue = λ l at pos. (refl, refl)
+statement c i w start.Import = λ l at pos. (imports_, λ f g e. e)
+statement c i w start.Export = λ l at pos. (exports, λ f g e. e)
+statement c i w start.Function = λ l at pos. (function_statements, λ f g e. e)
+statement c i w start.Private = λ l at pos m p q. (function_statements, λ f g e. e)
+statement c i w start.Comment = λ l at pos. (comments_, λ a b e m. documented c i w a b at pos (statement_start c m))
+statement c i w start.Expression = λ at pos. (evaluations, λ f g e. (e, refl))
 
 abbrev pub OnScripts : node.Statements × Live → node.Statements × Live → Type 0
 OnScripts x y = (statements_shape x.0 ≡ statements_shape y.0) × (x.1 ≡ y.1)
 
-pub separated : (closing : Closing) (c : Context) (w v : Live) (a b : node.Statements) → w ≡ v → statements_shape a
-    ≡ statements_shape b → (s : AfterStatement) → LikeIn OnScripts (P.separated closing c w a s)
-    (P.separated closing c v b s)
-separated closing c w v a b i e ends.SemiColon = λ l at pos. (statement_lists i e, λ f g d. d)
-separated closing c w v a b i e ends.Close = (e, i)
-separated closing c w v a b i e ends.Nothing = tt
+pub separated : (closing : Closing) (c : Context) (n : ℕ) (w v : Live) (a b : node.Statements) → w ≡ v
+    → statements_shape a ≡ statements_shape b → (s : AfterStatement) → LikeIn OnScripts (P.separated closing c w a s)
+    (P.separated closing (at_level n c) v b s)
+separated closing c n w v a b i e ends.SemiColon = λ l at pos. (statement_lists i e, λ f g d. d)
+separated closing c n w v a b i e ends.Close = (e, i)
+separated closing c n w v a b i e ends.Nothing = tt
 
-pub after_one : (closing : Closing) (c : Context) (w v : Live) (a b : node.Statements) → w ≡ v → statements_shape a
-    ≡ statements_shape b → (s t : Bool) → s ≡ t → LikeIn OnScripts (P.after_one closing c w a s)
-    (P.after_one closing c v b t)
-after_one closing c w v a b i e true true h = (statement_lists i e, λ f g d. d)
-after_one closing c w v a b i e false false h = λ l. separated closing c w v a b i e (token_after_statement closing l)
-after_one closing c w v a b i e true false h = absurd cc
-after_one closing c w v a b i e false true h = absurd cc
+pub after_one : (closing : Closing) (c : Context) (n : ℕ) (w v : Live) (a b : node.Statements) → w ≡ v
+    → statements_shape a ≡ statements_shape b → (s t : Bool) → s ≡ t → LikeIn OnScripts (P.after_one closing c w a s)
+    (P.after_one closing (at_level n c) v b t)
+after_one closing c n w v a b i e true true h = (statement_lists i e, λ f g d. d)
+after_one closing c n w v a b i e false false h = λ l.
+    separated closing c n w v a b i e (token_after_statement closing l)
+after_one closing c n w v a b i e true false h = absurd cc
+after_one closing c n w v a b i e false true h = absurd cc
 
-pub statements : (closing : Closing) (c : Context) (w : Live) (a b : node.Statements) → statements_shape a
+pub statements : (closing : Closing) (c : Context) (n : ℕ) (w : Live) (a b : node.Statements) → statements_shape a
     ≡ statements_shape b → (s : StatementRole) → LikeIn OnScripts (P.statements closing c w a s)
-    (P.statements closing c w b s)
-statements closing c w a b e st.Close = (e, refl)
-statements closing c w a b e st.Statement = (
+    (P.statements closing (at_level n c) w b s)
+statements closing c n w a b e st.Close = (e, refl)
+statements closing c n w a b e st.Statement = (
   statements_,
   λ f g d.
-      after_one closing c f.1 g.1 (with_kept a f.0) (with_kept b g.0) d.1 (kept_added a b f.0 g.0 e d.0)
+      after_one closing c n f.1 g.1 (with_kept a f.0) (with_kept b g.0) d.1 (kept_added a b f.0 g.0 e d.0)
       (ends_itself f.0) (ends_itself g.0) (sym (ends_shape f.0) ∙ ap ends_itself d.0 ∙ ends_shape g.0),
 )
-statements closing c w a b e st.Nothing = tt
+statements closing c n w a b e st.Nothing = tt
 
-pub inside : (c : Context) (w : Live) (b : Bool)
+pub inside : (c : Context) (n : ℕ) (w : Live) (b : Bool)
     → LikeIn (λ (x y : node.Statements). statements_shape x ≡ statements_shape y) (P.inside_by c w b)
-    (P.inside_by c w b)
-inside c w true = (evaluations, λ f g e. ap (λ s. node.one_statement s node.no_statements) e)
-inside c w false = (statement_lists refl refl, λ f g e. e.0)
+    (P.inside_by (at_level n c) w b)
+inside c n w true = (evaluations, λ f g e. ap (λ s. node.one_statement s node.no_statements) e)
+inside c n w false = (statement_lists refl refl, λ f g e. e.0)
 
 pub do_end_like : (v : Option Bool) → LikeIn (λ (x y : Bool). x ≡ y) (P.do_end_by v) (P.do_end_by v)
 do_end_like None = tt
 do_end_like (Some b) = λ l at pos. refl
 
-pub arms : (c : Context) (w : Live) (a b : Collected) → collected_shape a ≡ collected_shape b → (v : ArmRole)
-    → LikeIn (λ (x y : Collected). collected_shape x ≡ collected_shape y) (P.arms_by c w a v) (P.arms_by c w b v)
-arms c w a b e arm.Case = (arms_, λ x y d. (arm_lists (arm_so a b x.0 y.0 x.1 y.1 x.2 y.2 e d.0 d.1 d.2), λ i j f. f))
-arms c w a b e arm.Default = λ l at pos. (default_arms, λ x y d. default_so a b x y e d)
-arms c w a b e arm.Close = λ l at pos. e
-arms c w a b e arm.Nothing = tt
+pub arms : (c : Context) (n : ℕ) (w : Live) (a b : Collected) → collected_shape a ≡ collected_shape b → (v : ArmRole)
+    → LikeIn (λ (x y : Collected). collected_shape x ≡ collected_shape y) (P.arms_by c w a v)
+    (P.arms_by (at_level n c) w b v)
+arms c n w a b e arm.Case = (arms_, λ x y d. (arm_lists (arm_so a b x.0 y.0 x.1 y.1 x.2 y.2 e d.0 d.1 d.2), λ i j f. f))
+arms c n w a b e arm.Default = λ l at pos. (default_arms, λ x y d. default_so a b x y e d)
+arms c n w a b e arm.Close = λ l at pos. e
+arms c n w a b e arm.Nothing = tt
 
-pub action : (c : Context) (w : Live) (b : Bool)
+pub action : (c : Context) (n : ℕ) (w : Live) (b : Bool)
     → LikeIn (λ (x y : Node × Bool). (node_shape x.0 ≡ node_shape y.0) × (x.1 ≡ y.1)) (P.action_by c w b)
-    (P.action_by c w b)
-action c w true = (expressions_, λ x y e. (e, refl))
-action c w false = (
+    (P.action_by (at_level n c) w b)
+action c n w true = (expressions_, λ x y e. (e, refl))
+action c n w false = (
   tt,
   (
     statements_,
@@ -172,33 +176,34 @@ parameter parts t u a b e place.Item = λ l p q m. parted Alike_lists parts _ _ 
     (parameters_ (ap (λ ns. ns ++ text_of l ∷ []) e), λ x y d. d) (ap (λ ns. ns ++ text_of l ∷ []) e)
 parameter parts t u a b e place.Nothing = tt
 
-pub captured : {A B : Type 0} (Q : A → B → Type 0) (us vs : List Use) (c : Context) (w : Live) (p : Production A)
-    (q : Production B) → names_of us ≡ names_of vs → LikeIn Q p q → LikeIn Q (P.captured us c w p) (P.captured vs c w q)
-captured Q [] [] c w p q e h = h
-captured Q [] (v ∷ vs) c w p q e h = absurd cc
-captured Q (u ∷ us) [] c w p q e h = absurd cc
-captured Q (u ∷ us) (v ∷ vs) c w p q e h = captured Q us vs c w p q (cc) h
+pub captured : {A B : Type 0} (Q : A → B → Type 0) (us vs : List Use) (c d : Context) (w : Live) (p : Production A)
+    (q : Production B) → names_of us ≡ names_of vs → LikeIn Q p q → LikeIn Q (P.captured us c w p) (P.captured vs d w q)
+captured Q [] [] c d w p q e h = h
+captured Q [] (v ∷ vs) c d w p q e h = absurd cc
+captured Q (u ∷ us) [] c d w p q e h = absurd cc
+captured Q (u ∷ us) (v ∷ vs) c d w p q e h = captured Q us vs c d w p q (cc) h
 
-pub closure_of : (c : Context) (w : Live) (at pos : Position) (names : List Text) → LikeIn OnNodes
-    (P.closure_of c w at names) (P.closure_of c w pos names)
-closure_of c w at pos names = (
+pub closure_of : (c : Context) (j : ℕ) (w : Live) (at pos : Position) (names : List Text) → LikeIn OnNodes
+    (P.closure_of c w at names) (P.closure_of (at_level j c) w pos names)
+closure_of c j w at pos names = (
   closure_bodies refl,
   λ f g us vs n m e d i.
-      captured OnNodes us vs c w _ _ d (closure_so at pos n m us vs names w d i),
+      captured OnNodes us vs c (at_level j c) w _ _ d (closure_so at pos n m us vs names w d i),
 )
 
-pub closure_by : (c : Context) (w : Live) (at pos : Position) (v : Bars) → LikeIn OnNodes (P.closure_by c w at v)
-    (P.closure_by c w pos v)
-closure_by c w at pos bars.Pair = closure_of c w at pos []
-closure_by c w at pos bars.List = (
+pub closure_by : (c : Context) (n : ℕ) (w : Live) (at pos : Position) (v : Bars) → LikeIn OnNodes
+    (P.closure_by c w at v) (P.closure_by (at_level n c) w pos v)
+closure_by c n w at pos bars.Pair = closure_of c n w at pos []
+closure_by c n w at pos bars.List = (
   parameters_ refl,
   λ x y e.
-      subst (λ ns. LikeIn OnNodes (P.closure_of c w at x) (P.closure_of c w pos ns)) e (closure_of c w at pos x),
+      subst (λ ns. LikeIn OnNodes (P.closure_of c w at x) (P.closure_of (at_level n c) w pos ns)) e
+      (closure_of c n w at pos x),
 )
 
-pub definition : (c : Context) (w : Live) (at pos : Position) (k e : Bool) → LikeIn OnBoth (P.definition c w at k e)
-    (P.definition c w pos k e)
-definition c w at pos k e = (
+pub definition : (c : Context) (i : ℕ) (w : Live) (at pos : Position) (k e : Bool) → LikeIn OnBoth
+    (P.definition c w at k e) (P.definition (at_level i c) w pos k e)
+definition c i w at pos k e = (
   names_,
   λ m n f. (
     initializers,
@@ -210,12 +215,12 @@ definition c w at pos k e = (
   ),
 )
 
-pub segments : (c : Context) (w : Live) (at pos : Position) (s t : Text) (i j : Bool) (p q : Position) (a b : Nodes)
-    → s ≡ t → i ≡ j → nodes_shape a ≡ nodes_shape b → LikeIn OnLists
+pub segments : (c : Context) (n : ℕ) (w : Live) (at pos : Position) (s t : Text) (i j : Bool) (p q : Position)
+    (a b : Nodes) → s ≡ t → i ≡ j → nodes_shape a ≡ nodes_shape b → LikeIn OnLists
     (if i then S.give (added_text a s p) else S.part (R.Segments c w at (added_text a s p)) S.give)
-    (if j then S.give (added_text b t q) else S.part (R.Segments c w pos (added_text b t q)) S.give)
-segments c w at pos s t true true p q a b e d f = ap (λ u. nodes_shape (added_text a u p)) e ∙ text_added a b t p q f
-segments c w at pos s t false false p q a b e d f =
+    (if j then S.give (added_text b t q) else S.part (R.Segments (at_level n c) w pos (added_text b t q)) S.give)
+segments c n w at pos s t true true p q a b e d f = ap (λ u. nodes_shape (added_text a u p)) e ∙ text_added a b t p q f
+segments c n w at pos s t false false p q a b e d f =
     (segment_lists (ap (λ u. nodes_shape (added_text a u p)) e ∙ text_added a b t p q f), λ x y g. g)
-segments c w at pos s t true false p q a b e d f = absurd cc
-segments c w at pos s t false true p q a b e d f = absurd cc
+segments c n w at pos s t true false p q a b e d f = absurd cc
+segments c n w at pos s t false true p q a b e d f = absurd cc

@@ -1,56 +1,56 @@
--- A law: forms that are equal up to positions have trees that are so.
-use Rattle.std.specs.Prelude.{◌≡◌, ℕ, List}
+-- A law: forms that are written alike have trees that are equal up to positions.
+use Rattle.std.specs.Prelude.{◌≡◌, ℕ}
 use Rattle.rhai_lower.specs.Nodes as node
-use Rattle.rhai_grammar.specs.Prelude.{Lexeme, Text, names_of, Context, Live, Node, node_shape}
+use Rattle.rhai_grammar.specs.Prelude.{names_of, Context, Live, Node, node_shape}
 use Rattle.rhai_grammar.specs.Shapes.{statements_shape}
 use Rattle.rhai_grammar.specs.Goals.{Goal, Val, Expression, Script}
-use Rattle.rhai_grammar.specs.Productions.{Production}
+use Rattle.rhai_grammar.specs.Productions.{Production, view}
 use Rattle.rhai_grammar.specs.Rules.{production}
 use Rattle.rhai_grammar.specs.Forms as F
 use Rattle.rhai_grammar.specs.Forms.{given, take, this, if_so, if_not, choose, here, must, knows, adds, uses}
 use Rattle.rhai_grammar.specs.Forms.{captures, part, literal, apart, in_text, form}
 
--- a form without positions: tokens, ways, parts, and what closures capture
-pub data Code : Type 0 where
-  done : Code
-  token : Lexeme → Code → Code
-  so : Code → Code
-  not : Code → Code
-  inside : Code → Code → Code
-  closed : List Text → ℕ → Code → Code → Code
+-- the same context at another level
+abbrev pub at_level : ℕ → Context → Context
+at_level level context = record context { settings = record context.settings { level = level } }
 
 -- `rule` says what is written where each goal is read.
 module _ (rule : (g : Goal) → Production (Val g)) where
   abbrev mutual
-    -- a form without positions
-    pub shape : {g : Goal} {x : Val g} → F.Form rule g x → Code
-    shape (form f) = shape_in f
+    -- Two forms are written alike: they take the same tokens, in the same ways and parts, and what closures capture has
+    -- the same names. Positions may differ; so may a token that is looked at and not taken, if the answer stays.
+    pub Alike : {g h : Goal} {x : Val g} {y : Val h} → F.Form rule g x → F.Form rule h y → Type 0
+    Alike (form f) (form e) = AlikeIn f e
 
-    pub shape_in : {h : Goal} {p : Production (Val h)} {x : Val h} → F.Filled rule h p x → Code
-    shape_in given = done
-    shape_in (take l at f) = token l (shape_in f)
-    shape_in (this l at f) = token l (shape_in f)
-    shape_in (if_so f) = so (shape_in f)
-    shape_in (if_not f) = not (shape_in f)
-    shape_in (choose l at f) = token l (shape_in f)
-    shape_in (here l at f) = shape_in f
-    shape_in (must f) = shape_in f
-    shape_in (knows f) = shape_in f
-    shape_in (adds f) = shape_in f
-    shape_in (uses l at f) = token l (shape_in f)
-    shape_in (captures f) = shape_in f
-    shape_in (part v f rest) = inside (shape f) (shape_in rest)
-    shape_in (literal v f rest) = inside (shape f) (shape_in rest)
-    shape_in (apart v us n f rest) = closed (names_of us) n (shape f) (shape_in rest)
-    shape_in (in_text closing l at f) = token l (shape_in f)
+    pub AlikeIn : {g h : Goal} {p : Production (Val g)} {q : Production (Val h)} {x : Val g} {y : Val h}
+        → F.Filled rule g p x → F.Filled rule h q y → Type 0
+    AlikeIn given given = Unit {0}
+    AlikeIn (take l at f) (take m pos e) = (l ≡ m) × AlikeIn f e
+    AlikeIn (this l at f) (this m pos e) = (l ≡ m) × AlikeIn f e
+    AlikeIn (if_so f) (if_so e) = AlikeIn f e
+    AlikeIn (if_not f) (if_not e) = AlikeIn f e
+    AlikeIn (choose {v = v} l at f) (choose m pos e) = (view v l ≡ view v m) × AlikeIn f e
+    AlikeIn (here l at f) (here m pos e) = AlikeIn f e
+    AlikeIn (must f) (must e) = AlikeIn f e
+    AlikeIn (knows f) (knows e) = AlikeIn f e
+    AlikeIn (adds f) (adds e) = AlikeIn f e
+    AlikeIn (uses {v = excludes} l at f) (uses m pos e) = (excludes l ≡ excludes m) × AlikeIn f e
+    AlikeIn (captures f) (captures e) = AlikeIn f e
+    AlikeIn (part v f rest) (part w e more) = Alike f e × AlikeIn rest more
+    AlikeIn (literal v f rest) (literal w e more) = Alike f e × AlikeIn rest more
+    AlikeIn (apart v us n f rest) (apart w vs m e more) =
+        (names_of us ≡ names_of vs) × (n ≡ m) × Alike f e × AlikeIn rest more
+    AlikeIn (in_text closing l at f) (in_text other m pos e) = (l ≡ m) × AlikeIn f e
+    AlikeIn _ _ = ⊥
 
--- Forms of an expression, or of a script, that are equal up to positions have trees that are so; after such scripts the
--- same slots and imports are live.
+-- Forms of an expression, or of a script, that are written alike have trees that are equal up to positions, whatever
+-- their levels are; after such scripts the same slots and imports are live.
 pub record TreesKeepShape : Type 0 where
-  pub expression : (context : Context) (live : Live) (x y : Node)
-      (f : F.Form production (Expression context live) x) (h : F.Form production (Expression context live) y)
-      → shape production f ≡ shape production h → node_shape x ≡ node_shape y
-  pub script : (context : Context) (live : Live) (x y : node.Statements × Live)
-      (f : F.Form production (Script context live) x) (h : F.Form production (Script context live) y)
-      → shape production f ≡ shape production h
+  pub expression : (context : Context) (level : ℕ) (live : Live) (x y : Node)
+      (f : F.Form production (Expression context live) x)
+      (h : F.Form production (Expression (at_level level context) live) y) → Alike production f h
+      → node_shape x ≡ node_shape y
+  pub script : (context : Context) (level : ℕ) (live : Live) (x y : node.Statements × Live)
+      (f : F.Form production (Script context live) x)
+      (h : F.Form production (Script (at_level level context) live) y) → Alike production f h
       → (statements_shape x.0 ≡ statements_shape y.0) × (x.1 ≡ y.1)

@@ -118,7 +118,7 @@ pub fn scopes_close()
     ensures { ScopesClose }
 {}
 
-/// Forms that are equal up to positions have trees that are equal up to positions.
+/// Forms that are written alike have trees that are equal up to positions, at whatever levels they stand.
 #[tactic(auto, using(crate::proofs::Shapes::trees_keep_shape))]
 pub fn trees_keep_shape()
     ensures { TreesKeepShape }
