@@ -1,197 +1,71 @@
--- Chains in parentheses are joined with the links after them.
-use Rattle.std.proofs.Common.{◌≡◌, Bool, true, false, List, [], ◌∷◌, ◌++◌, append_assoc, refl, ap, ◌∙◌, sym, subst}
-use Rattle.std.proofs.Common.{if◌then◌else◌}
-use Rattle.rhai_lower.specs.Nodes.{dot, index}
-use Rattle.rhai_grammar.specs.Prelude.{Bracket, Chain, Dotted, Link, LinkKind, chain_of, chained, is_last, link_node}
-use Rattle.rhai_grammar.specs.Prelude.{nest, node_shape, Lexeme, Position, Context, Live, Node, is_name, LinkSpot}
-use Rattle.rhai_grammar.specs.Prelude.{spot_after_operand, MemberRole, AMember, NoMember, bracket_link, member_link}
-use Rattle.rhai_grammar.specs.Prelude.{beginning, item}
-use Rattle.rhai_grammar.specs.declared.role.Linking.TheVariants as lk
-use Rattle.rhai_grammar.specs.declared.role.Beginning.TheVariants as begin
-use Rattle.rhai_grammar.specs.declared.role.Beginning.{Beginning}
-use Rattle.rhai_grammar.specs.declared.role.Linking.{Linking}
-use Rattle.rhai_grammar.proofs.ShapeSteps.{link_shapes, chains}
+-- The law of chains in parentheses, from the laws of forms that are written alike.
+use Rattle.std.proofs.Common.{◌≡◌, Option, List, refl, ap, ◌∙◌, sym, subst}
+use Rattle.rhai_grammar.specs.Prelude.{Context, Link, Live, Node, chained, node_shape}
+use Rattle.rhai_grammar.specs.Events.{spelling}
+use Rattle.rhai_grammar.proofs.ShapeSteps.{link_shapes}
 use Rattle.rhai_reading.specs.Reading as R
 use Rattle.rhai_reading.specs.Reading.{Goal, Val}
-use Rattle.rhai_grammar.specs.Productions.{Production}
-use Rattle.rhai_grammar.specs.Rules as P
 use Rattle.rhai_grammar.specs.Rules.{production}
 use Rattle.rhai_grammar.specs.Forms as F
-use Rattle.rhai_productions.specs.Always.{Always}
-use Rattle.rhai_productions.specs.ChainForms.{ChainBy, IsChain, IsOneChain, GroupBy, IsGroup, GroupedBy, IsGroupedChain}
-use Rattle.rhai_productions.specs.ChainForms.{ChainsAreJoined}
-use Rattle.rhai_productions.proofs.AlwaysLemmas.{always, trivially}
+use Rattle.rhai_productions.specs.ChainForms.{AllAlike, ChainsAreJoined, HasTwoMore, Piece, WrittenChain}
+use Rattle.rhai_productions.specs.Shaped.{Alike, lexemes}
+use Rattle.rhai_productions.proofs.Likeness.{keeps}
+use Rattle.rhai_productions.proofs.NearGoals.{Equal, Near, indices, members, postfixes, primaries}
+use Rattle.rhai_productions.proofs.ShapesOfTokens.{alike_tokens}
+use Rattle.rhai_productions.proofs.Shapes.{like}
+use Rattle.rhai_productions.proofs.TreeShapes.{chained_so}
+use Rattle.rhai_productions.proofs.ChainsOfForms.{Made, Rooted, bracket, chain_is, member, none, rooted, ungrouped_is}
+use Rattle.rhai_productions.proofs.ChainsOfTokens.{chain_tokens, ungrouped_tokens}
 
-abbrev alone : Node → Chain
-alone x = record { root = x; links = [] }
+-- an index is not written as a member is
+apart : {c d : Context} {w v : Live} {i : Option Node} {x y : Node} (f : F.Form production (R.Index c w i) x)
+    (e : F.Form production (R.Member d v) y) → Alike production f e → ⊥
+apart (F.form (F.part x f rest)) (F.form (F.this l at e)) same = same
 
-abbrev link : LinkKind → Bool → Position → Node → Link
-link kind negated at item = record { kind = kind; negated = negated; at = at; item = item }
+apart_too : {c d : Context} {w v : Live} {i : Option Node} {x y : Node} (f : F.Form production (R.Member d v) y)
+    (e : F.Form production (R.Index c w i) x) → Alike production f e → ⊥
+apart_too (F.form (F.this l at f)) (F.form (F.part x e rest)) same = same
 
--- A link may be the last of a chain: the member after a last dot is not itself a chain.
-abbrev MayBeLast : Link → Type 0
-MayBeLast l = l.kind ≡ Dotted → (chain_of l.item).links ≡ []
+-- links that are written alike are equal up to positions
+links_so : (c : Context) (w : Live) (ps qs : List Piece) (ls ms : List Link) → Made c w ps ls → Made c w qs ms
+    → AllAlike ps qs → link_shapes ls ≡ link_shapes ms
+links_so c w _ _ _ _ none none same = refl
+links_so c w _ _ _ _ none (bracket n l at i x f ps ls a) same = absurd same
+links_so c w _ _ _ _ none (member n l at x f ps ls a) same = absurd same
+links_so c w _ _ _ _ (bracket n l at i x f ps ls a) none same = absurd same
+links_so c w _ _ _ _ (member n l at x f ps ls a) none same = absurd same
+links_so c w _ _ _ _ (bracket n l at i x f ps ls a) (member m k pos y e qs ms b) same = absurd (apart f e same.1.0)
+links_so c w _ _ _ _ (member n l at x f ps ls a) (bracket m k pos i y e qs ms b) same =
+    absurd (apart_too f e same.1.0)
+links_so c w _ _ _ _ (bracket n l at i x f ps ls a) (bracket m k pos j y e qs ms b) same =
+    let d : node_shape x ≡ node_shape y = keeps Near Equal production like f _ _ e indices same.1.0 in
+    let t : l ≡ k = same.0 in
+    let r = links_so c w ps qs ls ms a b same.1.1 in cc
+links_so c w _ _ _ _ (member n l at x f ps ls a) (member m k pos y e qs ms b) same =
+    let d : node_shape x ≡ node_shape y = keeps Near Equal production like f _ _ e members same.1.0 in
+    let t : l ≡ k = same.0 in
+    let r = links_so c w ps qs ls ms a b same.1.1 in cc
 
-no_links : (x : Node) → (chain_of x).links ≡ [] → chain_of x ≡ alone x
-no_links (dot x y m p) e = absurd cc
-no_links (index x y m p) e = absurd cc
-no_links _ e = refl
-
-is_last-append : (a : List Link) (l : Link) (b : List Link) → is_last (a ++ (l ∷ b)) ≡ false
-is_last-append [] l b = refl
-is_last-append (k ∷ a) l b = refl
-
--- a link that is last
-last_link : (k : LinkKind) (m : Bool) (p : Position) (i x : Node) → (k ≡ Dotted → (chain_of i).links ≡ [])
-    → chain_of (link_node (link k m p i) true x i) ≡ record { root = x; links = link k m p i ∷ [] }
-last_link Bracket m p i x h = refl
-last_link Dotted m p i x h = ap (λ (c : Chain). record { root = x; links = link Dotted m p c.root ∷ c.links })
-    (no_links i (h refl))
-
--- a link followed by others
-first_link : (k : LinkKind) (m : Bool) (p : Position) (i x y : Node) (ls : List Link) → chain_of y ≡ record
-    { root = i; links = ls } → chain_of (link_node (link k m p i) false x y)
-    ≡ record { root = x; links = link k m p i ∷ ls }
-first_link Bracket m p i x y ls e = ap (λ (c : Chain). record { root = x; links = link Bracket m p c.root ∷ c.links }) e
-first_link Dotted m p i x y ls e = ap (λ (c : Chain). record { root = x; links = link Dotted m p c.root ∷ c.links }) e
-
-pub chain_of-nest : (x : Node) (a : List Link) (l : Link) → MayBeLast l → chain_of (nest x (a ++ l ∷ []))
-    ≡ record { root = x; links = a ++ l ∷ [] }
-chain_of-nest x [] l h = last_link l.kind l.negated l.at l.item x h
-chain_of-nest x (k ∷ a) l h =
-    ap (λ b. chain_of (link_node k b x (nest k.item (a ++ l ∷ [])))) (is_last-append a l [])
-    ∙ first_link k.kind k.negated k.at k.item x (nest k.item (a ++ l ∷ [])) (a ++ l ∷ []) (chain_of-nest k.item a l h)
-
--- a chain with at least one link
-chained-some : (x : Node) (a : List Link) (l : Link) (b : List Link) → chained x (a ++ (l ∷ b))
-    ≡ nest (chain_of x).root ((chain_of x).links ++ (a ++ (l ∷ b)))
-chained-some x [] l b = refl
-chained-some x (k ∷ a) l b = refl
-
--- a nested chain that is followed by further links
-nested_goes_on : (x : Node) (a : List Link) (l : Link) (b : List Link) → MayBeLast l → chained (nest x (a ++ l ∷ [])) b
-    ≡ nest x (a ++ (l ∷ b))
-nested_goes_on x a l [] h = refl
-nested_goes_on x a l (m ∷ b) h =
-    ap (λ (c : Chain). nest c.root (c.links ++ (m ∷ b))) (chain_of-nest x a l h)
-    ∙ ap (nest x) (append_assoc a (l ∷ []) (m ∷ b))
-
--- A chain that is followed by further links.
-joined_on : (x : Node) (a b : List Link) (l : Link) → MayBeLast l → chained (chained x (a ++ l ∷ [])) b ≡ chained x
-    (a ++ (l ∷ b))
-joined_on x a b l h =
-    let r = (chain_of x).root in
-    let ls = (chain_of x).links in
-    ap (λ y. chained y b) (chained-some x a l [] ∙ ap (nest r) (sym (append_assoc ls a (l ∷ []))))
-    ∙ nested_goes_on r (ls ++ a) l b h
-    ∙ ap (nest r) (append_assoc ls a (l ∷ b))
-    ∙ sym (chained-some x a l b)
-
--- any of these links may be last
-abbrev MayEnd : List Link → Type 0
-MayEnd [] = Unit {0}
-MayEnd (l ∷ ls) = MayBeLast l × MayEnd ls
-
-joined_more : (x : Node) (a : List Link) (l : Link) (ls b : List Link) → MayBeLast l → MayEnd ls
-    → chained (chained x (a ++ (l ∷ ls))) b ≡ chained x (a ++ (l ∷ (ls ++ b)))
-joined_more x a l [] b h hs = joined_on x a b l h
-joined_more x a l (k ∷ ls) b h hs =
-    ap (λ y. chained (chained x y) b) (sym (append_assoc a (l ∷ []) (k ∷ ls)))
-    ∙ joined_more x (a ++ (l ∷ [])) k ls b hs.0 hs.1
-    ∙ ap (chained x) (append_assoc a (l ∷ []) (k ∷ (ls ++ b)))
-
-joined_all : (x : Node) (ls b : List Link) → MayEnd ls → chained (chained x ls) b ≡ chained x (ls ++ b)
-joined_all x [] b hs = refl
-joined_all x (l ∷ ls) b hs = joined_more x [] l ls b hs.0 hs.1
-
--- ---- the links of forms
-
-abbrev Right : (g : Goal) → Val g → Type 0
-Right (R.Links w spot) ls = MayEnd spot.before → MayEnd ls
-Right (R.Member c w) x = (chain_of x).links ≡ []
-Right _ x = Unit {0}
-
-link_added : (ls : List Link) (l : Link) → MayEnd ls → MayBeLast l → MayEnd (ls ++ l ∷ [])
-link_added [] l h k = (k, tt)
-link_added (m ∷ ls) l h k = (h.0, link_added ls l h.1 k)
-
-by_either : {A : Type 0} (R : A → Type 0) (b : Bool) (p q : Production A) → Always Right R p → Always Right R q
-    → Always Right R (if b then p else q)
-by_either R true p q g h = g
-by_either R false p q g h = h
-
-dotted : (w : Live) (spot : LinkSpot) (l : Lexeme) (at : Position) (v : MemberRole)
-    → Always Right (λ ls. MayEnd spot.before → MayEnd ls) (P.dotted_by w spot l at v)
-dotted w spot l at AMember = λ x h ls k before. k (link_added spot.before (member_link l at x) before (λ e. h))
-dotted w spot l at (NoMember why) = tt
-
-links : (w : Live) (spot : LinkSpot) (v : Linking) → Always Right (λ ls. MayEnd spot.before → MayEnd ls)
-    (P.links_by w spot v)
-links w spot lk.Bracket = λ l at x u ls k before. k (link_added spot.before (bracket_link l at x) before (λ e.
-    absurd cc))
-links w spot lk.Dot = λ l at v. dotted w spot l at v
-links w spot lk.Nothing = λ before. before
-
-table : (g : Goal) → Always Right (Right g) (production g)
-table (R.Links w spot) = λ v. links w spot v
-table (R.Member c w) = λ name at. (
-  λ call u. refl,
-  by_either (λ x. (chain_of x).links ≡ []) (is_name name) _ _ (
-    tt,
-    refl,
-  ) tt,
-)
-table g = trivially Right (λ x. Unit {0}) (production g) (λ x. tt)
-
-may_end : {c : Context} {w : Live} {x : Node} {ls : List Link} → F.Form production (R.Links w (spot_after_operand c x))
-    ls → MayEnd ls
-may_end f = always Right production table f tt
-
--- ---- the law
-
-chain_by : (v : Beginning) {c : Context} {w : Live} {a : Node}
-    (f : F.Filled production (R.Operand c w) (P.operand_by c w v) a) (y : Node) (ls : List Link) → ChainBy v f y ls
-    → (a ≡ chained y ls) × MayEnd ls
-chain_by begin.Sign f y ls h = absurd h
-chain_by _ (F.part p fp (F.part z fz (F.part ms fm (F.must F.given)))) y ls h =
-    (ap (λ x. chained x ms) h.0 ∙ ap (chained y) h.1, subst MayEnd h.1 (may_end fm))
-
-is_chain : {c : Context} {w : Live} {a : Node} (f : F.Form production (R.Operand c w) a) (y : Node) (ls : List Link)
-    → IsChain f y ls → (a ≡ chained y ls) × MayEnd ls
-is_chain (F.form (F.choose l at f)) y ls h = chain_by (beginning l) f y ls h
-
-one_chain : {c : Context} {w : Live} {a : Node} (f : F.Form production (R.Expression c w) a) (y : Node)
-    (ls : List Link) → IsOneChain f y ls → (a ≡ chained y ls) × MayEnd ls
-one_chain (F.form (F.here l at (F.must (F.part z fz (F.part x fx rest))))) y ls h =
-    let r = is_chain fz y ls h.0 in (h.1 ∙ r.0, r.1)
-
-group_by : (v : Beginning) {c : Context} {w : Live} {a : Node}
-    (f : F.Filled production (R.Primary c w) (P.primary_by c w v) a) (y : Node) (ls : List Link) → GroupBy v f y ls
-    → (a ≡ chained y ls) × MayEnd ls
-group_by begin.Group (F.this l at (F.must (F.part x fx (F.take m p F.given)))) y ls h = one_chain fx y ls h
-group_by _ f y ls h = absurd h
-
-is_group : {c : Context} {w : Live} {a : Node} (f : F.Form production (R.Primary c w) a) (y : Node) (ls : List Link)
-    → IsGroup f y ls → (a ≡ chained y ls) × MayEnd ls
-is_group (F.form (F.choose l at f)) y ls h = group_by (beginning l) f y ls h
-
-grouped_by : (v : Beginning) {c : Context} {w : Live} {a : Node}
-    (f : F.Filled production (R.Operand c w) (P.operand_by c w v) a) (y : Node) (ls more : List Link)
-    → GroupedBy v f y ls more → a ≡ chained y (ls ++ more)
-grouped_by begin.Sign f y ls more h = absurd h
-grouped_by _ (F.part p fp (F.part z fz (F.part ms fm (F.must F.given)))) y ls more h =
-    let r = is_group fp y ls h.0 in
-    ap (λ x. chained x ms) (h.1 ∙ r.0) ∙ ap (chained (chained y ls)) h.2 ∙ joined_all y ls more r.1
-
-grouped : {c : Context} {w : Live} {a : Node} (f : F.Form production (R.Operand c w) a) (y : Node) (ls more : List Link)
-    → IsGroupedChain f y ls more → a ≡ chained y (ls ++ more)
-grouped (F.form (F.choose l at f)) y ls more h = grouped_by (beginning l) f y ls more h
+-- chains that are written alike are equal up to positions
+chains_so : (c : Context) (w : Live) (x y : WrittenChain) → Rooted c w x → Rooted c w y
+    → AllAlike x.written y.written → node_shape (chained x.chain.root x.chain.links)
+    ≡ node_shape (chained y.chain.root y.chain.links)
+chains_so c w _ _ (rooted n p y fp fy ps ls a) (rooted m q z fq fz qs ms b) same =
+    let primary = keeps Near Equal production like fp _ q fq primaries same.0 in
+    let root = keeps Near Equal production like fy _ z fz (postfixes primary) same.1.0 in
+    chained_so y z ls ms root (links_so c w ps qs ls ms a b same.1.1)
 
 pub chains_are_joined : ChainsAreJoined
 chains_are_joined = record {
-  equal = λ c d w v a b y f e links more h k. grouped f y links more h ∙ sym (is_chain e y (links ++ more) k).0;
-  same_shape = λ c d w v a b x y f e links more all h k same ls.
-      ap node_shape (grouped f x links more h) ∙ chains x (links ++ more)
-      ∙ ap (λ z. chained z (link_shapes (links ++ more))) same ∙ ap (chained (node_shape y)) ls
-      ∙ sym (chains y all) ∙ sym (ap node_shape (is_chain e y all k).0);
+  same_shape = λ c w a b f e same.
+      let r = ungrouped_is c c.settings.level w a f same.grouped same.grouped_is in
+      let s = chain_is c c.settings.level w b e same.plain same.plain_is in
+      ap node_shape r.tree ∙ chains_so c w same.grouped same.plain r.rooted s.rooted same.alike
+      ∙ sym (ap node_shape s.tree);
+  same_tokens = λ c w a b f e same.
+      subst (λ ls. HasTwoMore ls (lexemes (spelling production f)))
+      (alike_tokens same.grouped.written same.plain.written same.alike ∙ sym (chain_tokens e same.plain same.plain_is))
+      (ungrouped_tokens f same.grouped same.grouped_is);
+  grouped = λ c w a f x g. (ungrouped_is c c.settings.level w a f x g).tree;
+  plain = λ c w b e x h. (chain_is c c.settings.level w b e x h).tree;
 }

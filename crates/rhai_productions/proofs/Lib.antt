@@ -44,6 +44,9 @@ pub mod HeightsOfStatements
 pub mod HeightsOfGoals
 pub mod ReaderHeights
 pub mod AlwaysLemmas
+pub mod ChainsOfLinks
+pub mod ChainsOfForms
+pub mod ChainsOfTokens
 pub mod Chains
 pub mod Fronts
 pub mod RunLaw
@@ -51,6 +54,7 @@ pub mod RunsClimb
 pub mod Likeness
 pub mod NearGoals
 pub mod TreeShapes
+pub mod ShapesOfTokens
 pub mod ShapesOfOperands
 pub mod ShapesOfStatements
 pub mod Shapes

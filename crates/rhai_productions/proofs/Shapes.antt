@@ -28,6 +28,7 @@ use Rattle.rhai_productions.proofs.NearGoals.{branches, variables, catches, do_e
 use Rattle.rhai_productions.proofs.NearGoals.{case_lists, cases_, case_guards, actions, arm_ends, default_ends}
 use Rattle.rhai_productions.proofs.NearGoals.{comments_, function_statements, functions, heads, parameter_lists}
 use Rattle.rhai_productions.proofs.NearGoals.{parameters_, closures, closure_bodies}
+use Rattle.rhai_productions.proofs.ShapesOfTokens.{same_tokens}
 use Rattle.rhai_productions.proofs.TreeShapes.{node_added, made_so, method_so, qualified_so, count_shape, fields_shape}
 use Rattle.rhai_productions.proofs.ShapesOfOperands.{LikeIn, like_if, OnNodes, OnLists, OnStatements}
 use Rattle.rhai_productions.proofs.ShapesOfOperands.{operand, right, primary, called, call_like, links, parted, element}
@@ -186,6 +187,7 @@ like _ _ (closure_bodies {c} {n} {w} {v} i) =
 
 pub trees_keep_shape : TreesKeepShape
 trees_keep_shape = record {
+  tokens = λ g h x y f e same. same_tokens f e same;
   expression = λ c n w x y f e same. keeps Near Equal production like f _ _ e expressions_ same;
   script = λ c n w x y f e same. keeps Near Equal production like f _ _ e (statement_lists refl refl) same;
 }

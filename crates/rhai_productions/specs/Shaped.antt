@@ -1,7 +1,8 @@
 -- A law: forms that are written alike have trees that are equal up to positions.
-use Rattle.std.specs.Prelude.{◌≡◌, ℕ}
+use Rattle.std.specs.Prelude.{◌≡◌, ℕ, List, [], ◌∷◌}
 use Rattle.rhai_lower.specs.Nodes as node
-use Rattle.rhai_grammar.specs.Prelude.{names_of, Context, Live, Node, node_shape}
+use Rattle.rhai_grammar.specs.Prelude.{names_of, Context, Lexeme, Live, Node, Taken, node_shape}
+use Rattle.rhai_grammar.specs.Events.{spelling}
 use Rattle.rhai_grammar.specs.Shapes.{statements_shape}
 use Rattle.rhai_grammar.specs.Goals.{Goal, Val, Expression, Script}
 use Rattle.rhai_grammar.specs.Productions.{Production, view}
@@ -17,8 +18,9 @@ at_level level context = record context { settings = record context.settings { l
 -- `rule` says what is written where each goal is read.
 module _ (rule : (g : Goal) → Production (Val g)) where
   abbrev mutual
-    -- Two forms are written alike: they take the same tokens, in the same ways and parts, and what closures capture has
-    -- the same names. Positions may differ; so may a token that is looked at and not taken, if the answer stays.
+    -- Two forms are written alike: they take the same tokens, go the same ways, and have parts that are so; closures
+    -- have the same numbers, and capture the same names. Positions may differ; so may a token that is only looked at,
+    -- if it is answered in the same way.
     pub Alike : {g h : Goal} {x : Val g} {y : Val h} → F.Form rule g x → F.Form rule h y → Type 0
     Alike (form f) (form e) = AlikeIn f e
 
@@ -43,9 +45,16 @@ module _ (rule : (g : Goal) → Production (Val g)) where
     AlikeIn (in_text closing l at f) (in_text other m pos e) = (l ≡ m) × AlikeIn f e
     AlikeIn _ _ = ⊥
 
--- Forms of an expression, or of a script, that are written alike have trees that are equal up to positions, whatever
--- their levels are; after such scripts the same slots and imports are live.
+-- tokens without their modes and positions
+abbrev pub lexemes : List Taken → List Lexeme
+lexemes [] = []
+lexemes (t ∷ ts) = t.item.lexeme ∷ lexemes ts
+
+-- Forms that are written alike are spelled by the same tokens. Those of an expression, or of a script, have trees that
+-- are equal up to positions, whatever their levels are; after such scripts the same slots and imports are live.
 pub record TreesKeepShape : Type 0 where
+  pub tokens : (g h : Goal) (x : Val g) (y : Val h) (f : F.Form production g x) (e : F.Form production h y)
+      → Alike production f e → lexemes (spelling production f) ≡ lexemes (spelling production e)
   pub expression : (context : Context) (level : ℕ) (live : Live) (x y : Node)
       (f : F.Form production (Expression context live) x)
       (h : F.Form production (Expression (at_level level context) live) y) → Alike production f h

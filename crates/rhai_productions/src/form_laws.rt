@@ -124,7 +124,8 @@ pub fn trees_keep_shape()
     ensures { TreesKeepShape }
 {}
 
-/// A chain in parentheses that goes on has the tree of the chain without them.
+/// A chain in parentheses, with the links after it, has up to positions the tree of the same chain and links written
+/// without the two parentheses.
 #[tactic(auto, using(crate::proofs::Chains::chains_are_joined))]
 pub fn chains_are_joined()
     ensures { ChainsAreJoined }
