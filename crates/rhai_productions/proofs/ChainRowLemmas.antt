@@ -11,6 +11,7 @@ grouped_row = record {
   fits = fits (assumption) refl;
   plain_tree_is = refl;
   plain_fits = fits (assumption) refl;
+  without = record { grouped = _; plain = _; grouped_is = refl; plain_is = refl; alike = assumption };
 }
 
 pub joined_row : JoinedRow
@@ -20,6 +21,7 @@ joined_row = record {
   fits = fits (assumption) refl;
   plain_tree_is = refl;
   plain_fits = fits (assumption) refl;
+  without = record { grouped = _; plain = _; grouped_is = refl; plain_is = refl; alike = assumption };
 }
 
 pub questioned_row : QuestionedRow

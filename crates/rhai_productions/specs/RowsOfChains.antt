@@ -9,12 +9,15 @@ use Rattle.rhai_lower.specs.declared.node.LinkFlags.{LinkFlags}
 use Rattle.rhai_lower.specs.declared.token.Token.TheVariants as token
 use Rattle.rhai_grammar.specs.Causes as cause
 use Rattle.rhai_grammar.specs.Causes.{Refusal, refusal}
-use Rattle.rhai_grammar.specs.Contexts.{Context}
+use Rattle.rhai_grammar.specs.Contexts.{Context, level_up, nothing_live}
 use Rattle.rhai_grammar.specs.Delivered.{code}
 use Rattle.rhai_grammar.specs.RowStreams.{between, depth, unread}
 use Rattle.rhai_grammar.specs.Trees.{variable_of}
-use Rattle.rhai_grammar.specs.Forms.{choose, form, given, if_not, if_so, must, must_here, part, this, uses}
+use Rattle.rhai_grammar.specs.Forms.{Form, choose, form, given, here, if_not, if_so, must, must_here, part, this, uses}
+use Rattle.rhai_grammar.specs.Goals.{Operand}
 use Rattle.rhai_grammar.specs.Promises.{Unwritten, Written, tree_of}
+use Rattle.rhai_grammar.specs.Rules.{production}
+use Rattle.rhai_productions.specs.ChainForms.{IsWithoutParentheses}
 use Rattle.rhai_productions.specs.WorkedForms.{ends, group, name_alone, name_linked, run, unlinked, whole}
 use Rattle.rhai_productions.specs.WorkedLists.{bracket, dotted, question_bracket}
 use Rattle.rhai_productions.specs.WorkedOpenForms.{open_operand, open_part, open_whole}
@@ -42,6 +45,11 @@ abbrev pub questioned : LinkFlags
 questioned = record { negated = true; terminating = false }
 
 -- ---- a chain in parentheses that is followed by links
+
+-- the first operand of a formula
+abbrev pub operand_of : {c : Context} → Written (formula c)
+    → (x : Node) × Form production (Operand (level_up c) nothing_live) x
+operand_of (x, form (part y (form (here l at (must (part z operand run)))) end)) = (z, operand)
 
 -- Index(x, Dot(y, Index(prop_a, Dot(z, prop_b)))), in which no bracket ends the chain, with the columns of the names
 -- and links in written order
@@ -80,13 +88,14 @@ long_form c =
     (closing_bracket 4)) 4 (dotted 5 (codes "prop_a") 6 (bracket 12 (name_alone (codes "z") 13 (closing_bracket 14)) 14
     (dotted 15 (codes "prop_b") 16 (unlinked (end_mark 22))))))) (ends (end_mark 22)))
 
--- Both fit, and their trees are equal up to positions.
+-- Both fit, and their trees are equal up to positions. The second is the first without its two parentheses.
 pub record GroupedRow : Type 0 where
   pub tree_is : tree_of (formula (depth 64)) (grouped_form (depth 64)) ≡ long_tree 3 4 5 7 8 16 17 19 20
   pub fits : Fits (formula (depth 64)) (grouped_form (depth 64)) (unread grouped_tokens 26)
       (between grouped_tokens [] 26)
   pub plain_tree_is : tree_of (formula (depth 64)) (long_form (depth 64)) ≡ long_tree 1 2 3 5 6 12 13 15 16
   pub plain_fits : Fits (formula (depth 64)) (long_form (depth 64)) (unread long_tokens 22) (between long_tokens [] 22)
+  pub without : IsWithoutParentheses (operand_of (grouped_form (depth 64))).1 (operand_of (long_form (depth 64))).1
 
 -- Index(a, Index(b, c)), in which the second bracket ends the chain
 abbrev pub brackets_tree : (mark : LinkFlags) (a first b second c : ℕ) → Node
@@ -120,13 +129,14 @@ brackets_form c =
     (ends (end_mark 8)))
 
 -- Both fit, and their trees are equal up to positions: the bracket that ends the chain in parentheses does not end the
--- whole chain.
+-- whole chain. The second is the first without its two parentheses.
 pub record JoinedRow : Type 0 where
   pub tree_is : tree_of (formula (depth 64)) (joined_form (depth 64)) ≡ brackets_tree no_mark 2 3 4 7 8
   pub fits : Fits (formula (depth 64)) (joined_form (depth 64)) (unread joined_tokens 10) (between joined_tokens [] 10)
   pub plain_tree_is : tree_of (formula (depth 64)) (brackets_form (depth 64)) ≡ brackets_tree no_mark 1 2 3 5 6
   pub plain_fits : Fits (formula (depth 64)) (brackets_form (depth 64)) (unread brackets_tokens 8)
       (between brackets_tokens [] 8)
+  pub without : IsWithoutParentheses (operand_of (joined_form (depth 64))).1 (operand_of (brackets_form (depth 64))).1
 
 -- ---- marks, and a member that is refused
 
