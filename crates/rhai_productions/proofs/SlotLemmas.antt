@@ -1,6 +1,6 @@
 -- Which slot a name refers to, and what statements keep of the slots and imports before them.
 use Rattle.std.proofs.Common.{◌≡◌, ◌∙◌, ◌⊎◌, inl, inr, ℕ, ◌-◌, ◌≤◌, Bool, true, false, nat_lt, List, [], ◌∷◌}
-use Rattle.std.proofs.Common.{◌++◌, Option, Some, None, unwrap_or, length, take, refl, sym, ap, subst, arith}
+use Rattle.std.proofs.Common.{◌++◌, Option, Some, None, unwrap_or, length, take, refl, sym, ap, ap₂, subst, arith}
 use Rattle.std.proofs.Common.{if◌then◌else◌}
 use Rattle.std.proofs.lemmas.Bool.{ltb-false, not-true}
 use Rattle.std.proofs.lemmas.List.{length-append, length-set, take-append-le, take-set-le, take-take, take_all}
@@ -9,7 +9,7 @@ use Rattle.rhai_lower.specs.Slots.{slot_at}
 use Rattle.rhai_grammar.specs.Prelude.{Text, SlotValue, fresh_slot, with_alias, Position, Context, Live, Item}
 use Rattle.rhai_grammar.specs.Prelude.{catch_live, define_at, export_at, is_in_block, loop_live, reused, number, Point}
 use Rattle.rhai_grammar.specs.Prelude.{Lexeme, Met, Nothing, code, defined_as, ends_itself, excludes_use, exported}
-use Rattle.rhai_grammar.specs.Prelude.{imported, next_at, with_kept, name_tree, text_of, Comment}
+use Rattle.rhai_grammar.specs.Prelude.{imported, in_block, next_at, with_kept, name_tree, text_of, Comment}
 use Rattle.rhai_grammar.specs.Definitions.{defined}
 use Rattle.rhai_grammar.specs.Slots.{IsLatest}
 use Rattle.rhai_grammar.specs.Targets.{slot_of}
@@ -30,7 +30,7 @@ use Rattle.rhai_grammar.specs.Rules as P
 use Rattle.rhai_grammar.specs.Rules.{production}
 use Rattle.rhai_grammar.specs.Forms as D
 use Rattle.rhai_productions.specs.Always.{Always}
-use Rattle.rhai_productions.specs.SlotLaws.{NoSlot, NumberedSlot, ScopesClose}
+use Rattle.rhai_productions.specs.SlotLaws.{GivesBack, NoSlot, NumberedSlot, ScopesClose}
 use Rattle.rhai_productions.proofs.AlwaysLemmas.{always, trivially}
 
 -- ---- uses
@@ -259,38 +259,91 @@ expression_leaves : {c : Context} {w : Live} {x : node.Statement × Live}
     → D.Filled production (R.Statement c w) (P.statement_by c w start.Expression) x → x.1 ≡ w
 expression_leaves (D.here l at (D.must (D.part v f D.given))) = refl
 
+-- What begins with all slots and imports that were live gives them back.
+gives : (w v : Live) → take (length w.slots) v.slots ≡ w.slots → take (length w.imports) v.imports ≡ w.imports
+    → GivesBack w v
+gives w v e h = ap₂ (λ s i. record { slots = s; block = w.block; imports = i }) e h
+
 -- one more slot is above those that were there
 above : (slots more : List SlotValue) → take (length slots) (slots ++ more) ≡ slots
 above slots more =
     take-append-le (length slots) slots more (omega arith) ∙ take_all (length slots) slots (omega arith)
 
+all_imports : (w : Live) → take (length w.imports) w.imports ≡ w.imports
+all_imports w = take_all (length w.imports) w.imports (omega arith)
+
 loop_above : (name : Text) (counter : Option Text) (w : Live)
-    → ((loop_live name counter w).block ≡ length w.slots)
-    × (take (length w.slots) (loop_live name counter w).slots ≡ w.slots)
-loop_above name None w = (refl, above w.slots (fresh_slot name false ∷ []))
+    → ((loop_live name counter w).block ≡ length w.slots) × GivesBack w (loop_live name counter w)
+loop_above name None w = (
+  refl,
+  gives w (loop_live name None w) (above w.slots (fresh_slot name false ∷ [])) (all_imports w),
+)
 loop_above name (Some counter) w =
     let first = fresh_slot counter false ∷ [] in (
       refl,
-      take-append-le (length w.slots) (w.slots ++ first) (fresh_slot name false ∷ [])
+      gives w (loop_live name (Some counter) w)
+          (take-append-le (length w.slots) (w.slots ++ first) (fresh_slot name false ∷ [])
           (omega (arith, length-append w.slots first))
-          ∙ above w.slots first,
+          ∙ above w.slots first)
+          (all_imports w),
     )
 
 catch_above : (name : Option Text) (w : Live)
-    → ((catch_live name w).block ≡ length w.slots) × (take (length w.slots) (catch_live name w).slots ≡ w.slots)
-catch_above None w = (refl, take_all (length w.slots) w.slots (omega arith))
-catch_above (Some name) w = (refl, above w.slots (fresh_slot name false ∷ []))
+    → ((catch_live name w).block ≡ length w.slots) × GivesBack w (catch_live name w)
+catch_above None w =
+    (refl, gives w (catch_live None w) (take_all (length w.slots) w.slots (omega arith)) (all_imports w))
+catch_above (Some name) w =
+    (refl, gives w (catch_live (Some name) w) (above w.slots (fresh_slot name false ∷ [])) (all_imports w))
+
+loop_grows : (name : Text) (counter : Option Text) (w : Live)
+    → length w.slots ≤ length (loop_live name counter w).slots
+loop_grows name None w = omega (arith, length-append w.slots (fresh_slot name false ∷ []))
+loop_grows name (Some counter) w =
+    let first = fresh_slot counter false ∷ [] in
+    omega (arith, length-append w.slots first, length-append (w.slots ++ first) (fresh_slot name false ∷ []))
+
+catch_grows : (name : Option Text) (w : Live) → length w.slots ≤ length (catch_live name w).slots
+catch_grows None w = omega arith
+catch_grows (Some name) w = omega (arith, length-append w.slots (fresh_slot name false ∷ []))
+
+-- A block gives back what is live around it.
+closes : (w v : Live) → Kept (in_block w) v → GivesBack w v
+closes w v k =
+    gives w v ((k.slots (omega arith)).0 ∙ take_all (length w.slots) w.slots (omega arith)) k.imports.0
+
+-- So it does what is live around something that gives back no less.
+closes_in : (w u v : Live) → GivesBack w u → length w.slots ≤ length u.slots → u.imports ≡ w.imports
+    → Kept (in_block u) v → GivesBack w v
+closes_in w u v h l i k =
+    let back = closes u v k in
+    gives w v
+    (sym (take-take (length w.slots) (length u.slots) v.slots l)
+    ∙ ap (take (length w.slots)) (ap (λ (x : Live). x.slots) back)
+    ∙ ap (λ (x : Live). x.slots) h)
+    (subst (λ names. take (length names) v.imports ≡ names) i (ap (λ (x : Live). x.imports) back))
+
+loop_imports : (name : Text) (counter : Option Text) (w : Live) → (loop_live name counter w).imports ≡ w.imports
+loop_imports name None w = refl
+loop_imports name (Some counter) w = refl
+
+catch_imports : (name : Option Text) (w : Live) → (catch_live name w).imports ≡ w.imports
+catch_imports None w = refl
+catch_imports (Some name) w = refl
 
 pub scopes_close : ScopesClose
 scopes_close = record {
   construct = λ c w kind x f. construct_leaves kind f;
   expression = λ c w x f. expression_leaves f;
+  block = λ closing c w fs x f. closes w x.1 (kept f);
+  loop = λ name counter closing c w fs x f.
+      closes_in w (loop_live name counter w) x.1 (loop_above name counter w).1 (loop_grows name counter w)
+      (loop_imports name counter w) (kept f);
+  handler = λ name closing c w fs x f.
+      closes_in w (catch_live name w) x.1 (catch_above name w).1 (catch_grows name w) (catch_imports name w) (kept f);
+  arm = λ c w x f. closes w x.1 (kept f);
   start = λ closing c w fs x f. (kept f).block;
   before = λ closing c w fs x f l. ((kept f).slots l).0;
-  given_back = λ closing c w fs x f.
-      ((kept f).slots (omega arith)).0 ∙ take_all (length w.slots) w.slots (omega arith);
-  arm = λ c w x f. ((kept f).slots (omega arith)).0 ∙ take_all (length w.slots) w.slots (omega arith);
   imports = λ closing c w fs x f. (kept f).imports.0;
-  loop = loop_above;
-  handler = catch_above;
+  loop_variables = loop_above;
+  catch_variable = catch_above;
 }

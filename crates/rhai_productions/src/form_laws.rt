@@ -112,7 +112,8 @@ pub fn no_slot()
     ensures { NoSlot }
 {}
 
-/// Constructs, expressions, and the end of a block or an arm give back what was live.
+/// Constructs, expressions, and the end of a block, of the body of `for`, of the block of `catch` or of an arm of
+/// `switch` give back all slots and imports that were live.
 #[tactic(auto, using(crate::proofs::SlotLemmas::scopes_close))]
 pub fn scopes_close()
     ensures { ScopesClose }
