@@ -40,7 +40,7 @@ use Rattle.rhai_grammar.specs.Events.{spelling_in}
 use Rattle.rhai_productions.specs.Mentions.{Mention}
 use Rattle.rhai_productions.proofs.TreeMentions.{all_mentions, body_mentions, mentions, optional_mentions}
 use Rattle.rhai_productions.proofs.TreeMentions.{property_mentions, statement_mentions, statements_mentions}
-use Rattle.rhai_productions.specs.WrittenFunctions.{free_name, is_called_by}
+use Rattle.rhai_productions.specs.WrittenUses.{is_called_by}
 use Rattle.rhai_productions.proofs.Complete.{or_other}
 use Rattle.rhai_productions.proofs.MentionArms.{collected_mentions}
 use Rattle.rhai_productions.proofs.MentionLemmas.{More, Only, Silent, after, begun, both, call_before, none, on}
@@ -48,7 +48,7 @@ use Rattle.rhai_productions.proofs.MentionLemmas.{read_none, same, still, unchan
 use Rattle.rhai_productions.proofs.MentionTrees.{chains, link_mentions, one_link, one_node, one_property, operator}
 use Rattle.rhai_productions.proofs.MentionTrees.{sign, text, value, valued, variable}
 use Rattle.rhai_productions.proofs.NumbersOfOperands.{neither, not_both, or_first, second}
-use Rattle.rhai_productions.proofs.Using.{IsFollowed, Keeps, unless_called}
+use Rattle.rhai_productions.proofs.Using.{IsFollowed, Keeps, free_name, unless_called}
 
 -- ---- what is said of goals
 

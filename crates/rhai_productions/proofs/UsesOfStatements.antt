@@ -31,11 +31,11 @@ use Rattle.rhai_grammar.specs.Productions.{Production}
 use Rattle.rhai_grammar.specs.Rules as P
 use Rattle.rhai_productions.specs.Mentions.{is_read}
 use Rattle.rhai_productions.proofs.TreeMentions.{all_mentions, mentions, statement_mentions, statements_mentions}
-use Rattle.rhai_productions.specs.WrittenFunctions.{free_name}
 use Rattle.rhai_productions.proofs.MentionArms.{arm, collected_mentions, default_arm}
 use Rattle.rhai_productions.proofs.MentionLemmas.{More, Only, after, among_append, none, on}
 use Rattle.rhai_productions.proofs.MentionLemmas.{read_append, same, unchanged}
 use Rattle.rhai_productions.proofs.MentionTrees.{made, one_statement, valued, variable}
+use Rattle.rhai_productions.proofs.Using.{free_name}
 use Rattle.rhai_productions.proofs.UsesOfOperands.{KeepsIn, by_either, parted}
 
 -- ---- statements

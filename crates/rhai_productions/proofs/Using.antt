@@ -1,10 +1,11 @@
 -- What each production keeps of the names that are used holds of each form that fits. One induction over forms.
-use Rattle.std.proofs.Common.{◌≡◌, ◌∙◌, ℕ, Bool, true, false, ◌&&◌, List, [], ◌∷◌, ◌++◌, map, refl, sym, ap, ap₂, subst}
-use Rattle.std.proofs.Common.{Some, append_assoc, append-nil, if◌then◌else◌}
+use Rattle.std.proofs.Common.{◌≡◌, ◌∙◌, ℕ, Bool, true, false, ◌&&◌, ◌||◌, List, [], ◌∷◌, ◌++◌, map, refl, sym, ap, ap₂}
+use Rattle.std.proofs.Common.{Some, subst, append_assoc, append-nil, if◌then◌else◌}
 use Rattle.std.proofs.lemmas.List.{map-append}
+use Rattle.std.specs.Option.{is_some}
 use Rattle.rhai_grammar.specs.Prelude.{Demands, Ended, Fine, Item, Lexeme, Met, Node, Nothing, Point, Position, Text}
-use Rattle.rhai_grammar.specs.Prelude.{Use, adding, capturing, code, excludes_use, is_variable, next_at, past, text}
-use Rattle.rhai_grammar.specs.Prelude.{with_captured}
+use Rattle.rhai_grammar.specs.Prelude.{SlotValue, Taken, Use, adding, capturing, code, excludes_use, is_variable}
+use Rattle.rhai_grammar.specs.Prelude.{next_at, number, past, text, with_captured}
 use Rattle.rhai_grammar.specs.Delivered as M
 use Rattle.rhai_reading.specs.Reading as R
 use Rattle.rhai_reading.specs.Reading.{Goal, Val}
@@ -16,10 +17,76 @@ use Rattle.rhai_grammar.specs.Forms as F
 use Rattle.rhai_grammar.specs.Forms.{adds, apart, captures, choose, form, given, here, if_not, if_so, in_text}
 use Rattle.rhai_grammar.specs.Forms.{knows, literal, must, part, take, this, uses}
 use Rattle.rhai_grammar.specs.Events.{Event, ended_in, ends_only, events, events_in, spelling_in}
-use Rattle.rhai_productions.specs.WrittenFunctions.{WrittenFunction, free_name, free_names, free_names_in, functions_in}
-use Rattle.rhai_productions.specs.WrittenFunctions.{functions_of, is_called_by, live_slots, outside, own_names}
+use Rattle.rhai_productions.specs.WrittenFunctions.{WrittenFunction, functions_in, functions_of, own_names}
+use Rattle.rhai_productions.specs.WrittenUses.{IsEnd, IsUse, UseOrEnd, called_in, ends_of, free_names, is_called_by}
+use Rattle.rhai_productions.specs.WrittenUses.{live_slots, outside, use_of, uses_in, uses_of}
 use Rattle.rhai_productions.proofs.Complete.{or_other}
 use Rattle.rhai_productions.proofs.Refusals.{ended_on, ended_only}
+
+-- ---- names that are read from outside
+
+-- the name of a use, unless it is excluded or a live slot has the name
+abbrev pub free_name : (excluded : Bool) → Use → List SlotValue → List Text
+free_name excluded u slots = if excluded || is_some (number u.name slots) then [] else u.name ∷ []
+
+-- Which names of a part are read in the form around it, too: none if the part is called by the tokens after it, or if
+-- it is a function.
+abbrev names_outside : (g : Goal) → Val g → (after : List Taken) → List Text → List Text
+names_outside (R.Primary c w) x after names = if is_called_by after x then [] else names
+names_outside (R.Function c comments at is_private) x after names = []
+names_outside _ x after names = names
+
+-- the names of one more use
+one_more : (b : Bool) (name : Text) (names more : List Text)
+    → (if b then names ++ more else name ∷ (names ++ more)) ≡ (if b then names else name ∷ names) ++ more
+one_more true name names more = refl
+one_more false name names more = refl
+
+free_on : (us vs : List UseOrEnd) → free_names (us ++ vs) ≡ free_names us ++ free_names vs
+free_on [] vs = refl
+free_on (IsUse u ∷ us) vs =
+    let b = u.called || is_some (number u.written.name u.slots) in
+    ap (λ ns. if b then ns else u.written.name ∷ ns) (free_on us vs)
+    ∙ one_more b u.written.name (free_names us) (free_names vs)
+free_on (IsEnd e ∷ us) vs = free_on us vs
+
+free_use : (excluded : Bool) (u : Use) (slots : List SlotValue)
+    → free_names (use_of excluded u slots) ≡ free_name excluded u slots
+free_use true u slots = refl
+free_use false u slots = refl
+
+use_on : (excluded : Bool) (u : Use) (slots : List SlotValue) (us : List UseOrEnd)
+    → free_names (use_of excluded u slots ++ us) ≡ free_name excluded u slots ++ free_names us
+use_on excluded u slots us =
+    free_on (use_of excluded u slots) us ∙ ap (λ ns. ns ++ free_names us) (free_use excluded u slots)
+
+free_called : (us : List UseOrEnd) → free_names (called_in us) ≡ []
+free_called [] = refl
+free_called (IsUse u ∷ us) = free_called us
+free_called (IsEnd e ∷ us) = free_called us
+
+free_ends : (us : List UseOrEnd) → free_names (ends_of us) ≡ []
+free_ends [] = refl
+free_ends (IsUse u ∷ us) = free_ends us
+free_ends (IsEnd e ∷ us) = free_ends us
+
+ends_on : (us vs : List UseOrEnd) → free_names (ends_of us ++ vs) ≡ free_names vs
+ends_on us vs = free_on (ends_of us) vs ∙ ap (λ ns. ns ++ free_names vs) (free_ends us)
+
+free_outside : (g : Goal) (x : Val g) (after : List Taken) (us : List UseOrEnd)
+    → free_names (outside g x after us) ≡ names_outside g x after (free_names us)
+free_outside (R.Primary c w) x after us = by (is_called_by after x)
+  where
+    by : (b : Bool) → free_names (if b then called_in us else us) ≡ (if b then [] else free_names us)
+    by true = free_called us
+    by false = refl
+free_outside (R.Function c comments at is_private) x after us = free_ends us
+free_outside _ x after us = refl
+
+outside_on : (g : Goal) (x : Val g) (after : List Taken) (us vs : List UseOrEnd)
+    → free_names (outside g x after us ++ vs) ≡ names_outside g x after (free_names us) ++ free_names vs
+outside_on g x after us vs =
+    free_on (outside g x after us) vs ∙ ap (λ ns. ns ++ free_names vs) (free_outside g x after us)
 
 -- ---- what is said of productions
 
@@ -104,7 +171,7 @@ module _ (Right : (g : Goal) → Val g → (first next : Lexeme) → (names : Li
   through : {h : Goal} (g : Goal) (x : Val g) {p : Production (Val h)} {y : Val h} (f : F.Filled production h p y)
       (k : Demands) (s t : Point) → Met (F.demanded production f k) s t → (own names us : List Text)
       (K : List Text → List Text → Type 0) → Passes h g x p (op_at s) own names us K
-      → K (own_names g us own) (names ++ outside g x (spelling_in production f) us)
+      → K (own_names g us own) (names ++ names_outside g x (spelling_in production f) us)
   through (R.Primary c w) x {y = y} f k s t m own names us K h =
       subst (λ b. K own (names ++ (if b then [] else us))) (sym (h.0 y f k s t m refl)) h.1
   through (R.Function c comments at is_private) x f k s t m own names us K h = h
@@ -113,25 +180,38 @@ module _ (Right : (g : Goal) → Val g → (first next : Lexeme) → (names : Li
   module _ (table : (g : Goal) (n : Lexeme) → Keeps g (λ x next us. Right g x n next us) (production g) n [] []) where
     -- names that come one after the other
     grouped : {h : Goal} {x : Val h} {a : Lexeme} {ws : List WrittenFunction} {k : Demands} {t : Point}
-        (us vs ns : List Text) → Kept (λ next. Right h x a next ((us ++ vs) ++ ns)) ws k t
-        → Kept (λ next. Right h x a next (us ++ (vs ++ ns))) ws k t
-    grouped {h = h} {x = x} {a = a} us vs ns r = record {
+        (us vs ns : List Text) {all : List Text} → all ≡ vs ++ ns
+        → Kept (λ next. Right h x a next ((us ++ vs) ++ ns)) ws k t → Kept (λ next. Right h x a next (us ++ all)) ws k t
+    grouped {h = h} {x = x} {a = a} us vs ns e r = record {
       end = r.end;
       met = r.met;
-      right = subst (Right h x a (op_at r.end)) (append_assoc us vs ns) r.right;
+      right = subst (λ more. Right h x a (op_at r.end) (us ++ more)) (sym e)
+          (subst (Right h x a (op_at r.end)) (append_assoc us vs ns) r.right);
+      all = r.all;
+    }
+
+    -- the same names
+    renamed : {h : Goal} {x : Val h} {a : Lexeme} {ws : List WrittenFunction} {k : Demands} {t : Point}
+        (us : List Text) {ns all : List Text} → all ≡ ns
+        → Kept (λ next. Right h x a next (us ++ ns)) ws k t → Kept (λ next. Right h x a next (us ++ all)) ws k t
+    renamed {h = h} {x = x} {a = a} us e r = record {
+      end = r.end;
+      met = r.met;
+      right = subst (λ more. Right h x a (op_at r.end) (us ++ more)) (sym e) r.right;
       all = r.all;
     }
 
     mutual
       pub right : {g : Goal} {x : Val g} (f : F.Form production g x) (k : Demands) (s t : Point)
           → Met (F.demands production f k) s t
-          → Kept (λ next. Right g x (op_at s) next (free_names production f)) (functions_in production f) k t
+          → Kept (λ next. Right g x (op_at s) next (free_names (uses_in production f))) (functions_in production f) k t
       right (form {g = g} {x = x} f) k s t m = keeps f (op_at s) [] [] k s t m (table g (op_at s))
 
       keeps : {h : Goal} {p : Production (Val h)} {x : Val h} (f : F.Filled production h p x) (a : Lexeme)
           (own names : List Text) (k : Demands) (s t : Point) → Met (F.demanded production f k) s t
           → Keeps h (λ y next us. Right h y a next us) p (op_at s) own names
-          → Kept (λ next. Right h x a next (names ++ free_names_in production f)) (functions_of production f own) k t
+          → Kept (λ next. Right h x a next (names ++ free_names (uses_of production f)))
+          (functions_of production f own) k t
       keeps (given {h = j} {x = x}) a own names k s t m h = record {
         end = s;
         met = m;
@@ -167,40 +247,43 @@ module _ (Right : (g : Goal) → Val g → (first next : Lexeme) → (names : Li
       keeps (uses {h = j} {v = v} {c = c} {u = u} l at f) a own names k s t m h =
           let us = free_name (v l) u (live_slots j) in
           let from = capturing (c s.library (op_at s)) u s in
-          grouped names us (free_names_in production f)
+          grouped names us (free_names (uses_of production f)) (use_on (v l) u (live_slots j) (uses_of production f))
           (keeps f a own (names ++ us) k from t m.1.1 (h (v l) (ap (λ (i : Item). v i.lexeme) m.0)))
       keeps (captures {h = j} {c = c} {u = u} f) a own names k s t m h =
           let us = free_name false u (live_slots j) in
-          grouped names us (free_names_in production f)
+          grouped names us (free_names (uses_of production f)) (use_on false u (live_slots j) (uses_of production f))
           (keeps f a own (names ++ us) k (capturing (c s.library) u s) t m.1 h)
       keeps (part {h = j} {g = g} {k = q} v f rest) a own names k s t m h =
           let r = right f (F.demanded production rest k) s t m in
-          let us = free_names production f in
-          let ns = outside g v (spelling_in production rest) us in
+          let us = free_names (uses_in production f) in
+          let ns = names_outside g v (spelling_in production rest) us in
           let on = through g v rest k r.end t r.met own names us
           (λ o n. Keeps j (λ y next u. Right j y a next u) (q v) (op_at r.end) o n) (h v (op_at r.end) us r.right) in
           let more = keeps rest a (own_names g us own) (names ++ ns) k r.end t r.met on in
           beside (functions_in production f ++ functions_of production rest (own_names g us own))
           (all_on (functions_in production f) _ r.all more.all)
-          (grouped names ns (free_names_in production rest) more)
+          (grouped names ns (free_names (uses_of production rest))
+          (outside_on g v (spelling_in production rest) (uses_in production f) (uses_of production rest)) more)
       keeps (literal {h = j} {g = g} {k = q} v f rest) a own names k s t m h =
           let r = right f Nothing s m.0 m.1 in
-          let us = free_names production f in
-          let ns = outside g v (spelling_in production rest) us in
+          let us = free_names (uses_in production f) in
+          let ns = names_outside g v (spelling_in production rest) us in
           let is = ended (λ next. Right g v (op_at s) next us) m.0 r in
           let on = through g v rest k m.0 t m.2 own names us
           (λ o n. Keeps j (λ y next u. Right j y a next u) (q v) (op_at m.0) o n) (h v (op_at m.0) us is) in
           let more = keeps rest a (own_names g us own) (names ++ ns) k m.0 t m.2 on in
           beside (functions_in production f ++ functions_of production rest (own_names g us own))
           (all_on (functions_in production f) _ r.all more.all)
-          (grouped names ns (free_names_in production rest) more)
+          (grouped names ns (free_names (uses_of production rest))
+          (outside_on g v (spelling_in production rest) (uses_in production f) (uses_of production rest)) more)
       keeps (apart {g = g} v captured i f rest) a own names k s t m h =
           let r = right f Nothing (M.apart s) m.0 m.1 in
-          let us = free_names production f in
+          let us = free_names (uses_in production f) in
           let is = ended (λ next. Right g v (op_at s) next us) m.0 r in
           let more = keeps rest a us names k (with_captured s.captured m.0) t m.3 (h v captured i (op_at m.0) us is) in
           beside (functions_in production f ++ functions_of production rest us)
-          (all_on (functions_in production f) _ r.all more.all) more
+          (all_on (functions_in production f) _ r.all more.all)
+          (renamed names (ends_on (uses_in production f) (uses_of production rest)) more)
       keeps (in_text closing l at f) a own names k s t m h =
           let u = past text (past code s) in
           keeps f a own names k u t m.1.1.1.1 (h closing l at (op_at u))
@@ -235,13 +318,13 @@ mutual
   ends (uses l at f) own = ends f own
   ends (captures f) own = ends f own
   ends (part {g = g} v f rest) own =
-      let names = own_names g (free_names production f) own in
+      let names = own_names g (free_names (uses_in production f)) own in
       joined (events production f) (events_in production rest) _ _ (functions_end f) (ends rest names)
   ends (literal {g = g} v f rest) own =
-      let names = own_names g (free_names production f) own in
+      let names = own_names g (free_names (uses_in production f)) own in
       joined (events production f) (events_in production rest) _ _ (functions_end f) (ends rest names)
   ends (apart v us n f rest) own =
-      let names = free_names production f in
+      let names = free_names (uses_in production f) in
       joined (ends_only (events production f)) (events_in production rest) _ _
       (ended_only (events production f) ∙ functions_end f) (ends rest names)
   ends (in_text closing l at f) own = ends f own

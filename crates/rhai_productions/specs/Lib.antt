@@ -19,6 +19,7 @@ pub mod Runs
 pub mod Shaped
 pub mod StreamLaws
 pub mod Mentions
+pub mod WrittenUses
 pub mod WrittenFunctions
 pub mod UseLaws
 pub mod Lines

@@ -1,8 +1,7 @@
 -- Functions and closures in a form, with the names that they use. No clause is one of a production.
-use Rattle.std.specs.Prelude.{◌&&◌, ◌||◌, ◌++◌, Bool, false, List, [], ◌∷◌, None, codes, map, refl, ◌≡◌, if◌then◌else◌}
-use Rattle.std.specs.Option.{is_some}
-use Rattle.rhai_grammar.specs.Prelude.{Context, Ended, Live, Name, Node, Position, Sign, SlotValue, Taken, Text, Use}
-use Rattle.rhai_grammar.specs.Prelude.{closure_node, code, excludes_use, expression, is_among, is_variable, name_tree}
+use Rattle.std.specs.Prelude.{◌++◌, Bool, false, List, [], ◌∷◌, None, codes, map, refl, ◌≡◌}
+use Rattle.rhai_grammar.specs.Prelude.{Context, Ended, Live, Name, Node, Position, Sign, Text, Use}
+use Rattle.rhai_grammar.specs.Prelude.{closure_node, code, expression, is_among, name_tree}
 use Rattle.rhai_grammar.specs.Prelude.{number, parameters_live, place, variable}
 use Rattle.rhai_lower.specs.Nodes.{Named}
 use Rattle.rhai_grammar.specs.Contexts.{nothing_live}
@@ -14,9 +13,11 @@ use Rattle.rhai_grammar.specs.Productions.{Production}
 use Rattle.rhai_grammar.specs.Rules.{production}
 use Rattle.rhai_grammar.specs.Forms.{Filled, Form, adds, apart, captures, choose, form, given, here, if_not}
 use Rattle.rhai_grammar.specs.Forms.{if_so, in_text, knows, literal, must, part, take, this, uses}
-use Rattle.rhai_grammar.specs.Events.{spelling_in, taken}
+use Rattle.rhai_grammar.specs.Events.{taken}
+use Rattle.rhai_productions.specs.WrittenUses.{free_names, outer_uses, outside, use_of, uses_in}
 
--- a function or closure as it is written: what it gives to the library, and the names that are used in its body
+-- A function or closure as it is written: what it gives to the library, and the names that its body reads from outside.
+-- A name that a closure captures is among them.
 pub record WrittenFunction : Type 0 where
   pub ended : Ended
   pub names : List Text
@@ -25,28 +26,6 @@ pub record WrittenFunction : Type 0 where
 abbrev pub is_used : Text → WrittenFunction → Bool
 is_used name w = is_among name w.names
 
--- the live slots of a goal in which names are used: that of an operand, and that of a closure, where it ends
-abbrev pub live_slots : Goal → List SlotValue
-live_slots (R.Primary context live) = live.slots
-live_slots (R.Closure context live at by) = live.slots
-live_slots _ = []
-
--- the name of a use, unless it is excluded or a live slot has the name
-abbrev pub free_name : (excluded : Bool) → Use → List SlotValue → List Text
-free_name excluded u slots = if excluded || is_some (number u.name slots) then [] else u.name ∷ []
-
--- A variable is called, or made part of a path, by the first of these tokens.
-abbrev pub is_called_by : List Taken → Node → Bool
-is_called_by [] x = false
-is_called_by (t ∷ more) x = is_variable x && excludes_use t.item.lexeme
-
--- Which of the names that are used in a part are used in the form around it, too: none if the part is called by the
--- tokens after it, as in `(f)(x)`; and none if it is a function, whose names are its own.
-abbrev pub outside : (g : Goal) → Val g → (after : List Taken) → List Text → List Text
-outside (R.Primary context live) x after names = if is_called_by after x then [] else names
-outside (R.Function context comments at is_private) x after names = []
-outside _ x after names = names
-
 -- the names of the function that ends next: those used in this part, if it is a function, or else those known before
 abbrev pub own_names : Goal → (part before : List Text) → List Text
 own_names (R.Function context comments at is_private) names before = names
@@ -54,29 +33,6 @@ own_names _ names before = before
 
 -- `rule` says what is written where each goal is read.
 module _ (rule : (g : Goal) → Production (Val g)) where
-  abbrev mutual
-    -- The names that are used in a form where no live slot has them. What a closure captures is used where it ends.
-    pub free_names : {g : Goal} {x : Val g} → Form rule g x → List Text
-    free_names (form f) = free_names_in f
-
-    pub free_names_in : {h : Goal} {p : Production (Val h)} {x : Val h} → Filled rule h p x → List Text
-    free_names_in given = []
-    free_names_in (take l at f) = free_names_in f
-    free_names_in (this l at f) = free_names_in f
-    free_names_in (if_so f) = free_names_in f
-    free_names_in (if_not f) = free_names_in f
-    free_names_in (choose l at f) = free_names_in f
-    free_names_in (here l at f) = free_names_in f
-    free_names_in (must f) = free_names_in f
-    free_names_in (knows f) = free_names_in f
-    free_names_in (adds f) = free_names_in f
-    free_names_in (uses {h = h} {v = v} {u = u} l at f) = free_name (v l) u (live_slots h) ++ free_names_in f
-    free_names_in (captures {h = h} {u = u} f) = free_name false u (live_slots h) ++ free_names_in f
-    free_names_in (part {g = g} v f rest) = outside g v (spelling_in rule rest) (free_names f) ++ free_names_in rest
-    free_names_in (literal {g = g} v f rest) = outside g v (spelling_in rule rest) (free_names f) ++ free_names_in rest
-    free_names_in (apart v us n f rest) = free_names_in rest
-    free_names_in (in_text closing l at f) = free_names_in f
-
   abbrev mutual
     -- The functions and closures of a form, in the order in which they end. Those in a function end before it.
     pub functions_in : {g : Goal} {x : Val g} → Form rule g x → List WrittenFunction
@@ -99,10 +55,10 @@ module _ (rule : (g : Goal) → Production (Val g)) where
     functions_of (uses l at f) names = functions_of f names
     functions_of (captures f) names = functions_of f names
     functions_of (part {g = g} v f rest) names =
-        functions_in f ++ functions_of rest (own_names g (free_names f) names)
+        functions_in f ++ functions_of rest (own_names g (free_names (uses_in rule f)) names)
     functions_of (literal {g = g} v f rest) names =
-        functions_in f ++ functions_of rest (own_names g (free_names f) names)
-    functions_of (apart v us n f rest) names = functions_in f ++ functions_of rest (free_names f)
+        functions_in f ++ functions_of rest (own_names g (free_names (uses_in rule f)) names)
+    functions_of (apart v us n f rest) names = functions_in f ++ functions_of rest (free_names (uses_in rule f))
     functions_of (in_text closing l at f) names = functions_of f names
 
 -- ---- an example
@@ -142,12 +98,14 @@ example_closure context = form (knows (
 abbrev example_functions : Context → List WrittenFunction
 example_functions context = functions_in production (example_closure context)
 
--- The closure uses `b`, which is captured, and so used around it, too. A variable before `(` is no use.
+-- The closure uses `b`, which is captured, and so used around it, too, where the closure ends. A variable before `(` is
+-- called there.
 example : ((c : Context) → map (λ w. w.names) (example_functions c) ≡ (codes "b" ∷ []) ∷ [])
     × ((c : Context) → map (λ w. w.ended.function.parameters) (example_functions c)
     ≡ (codes "b" ∷ codes "a" ∷ []) ∷ [])
-    × ((c : Context) → free_names production (example_closure c) ≡ codes "b" ∷ [])
-    × ((c : Context) (w : Live) (x : Named) (at : Position) → outside (R.Primary c w) (variable x at)
-    (taken code (Sign token.LeftParen) (place 1 2) ∷ []) (x.name ∷ []) ≡ [])
+    × ((c : Context) → free_names (uses_in production (example_closure c)) ≡ codes "b" ∷ [])
+    × ((c : Context) → outer_uses (uses_in production (example_closure c)) [] ≡ example_captured)
+    × ((c : Context) (w : Live) (x : Named) (at : Position) (u : Use) → free_names (outside (R.Primary c w)
+    (variable x at) (taken code (Sign token.LeftParen) (place 1 2) ∷ []) (use_of false u w.slots)) ≡ [])
 unfolding number
-example = (λ c. refl, λ c. refl, λ c. refl, λ c w x at. refl)
+example = (λ c. refl, λ c. refl, λ c. refl, λ c. refl, λ c w x at u. refl)
