@@ -33,7 +33,7 @@ TABLE = EDITS / "refused.tsv"
 USE = re.compile(r"ghost use Rattle\.(\w+)\.specs\.([\w.]+?)\.\{([^}]*)\}")
 DEFINITION = re.compile(r"(?:(?:unfoldable|abbrev|record|data|pub) )*([^\s:({]+)")
 ROWS = re.compile(r"LinesOf|RowsOf|Worked|\w+RowLemmas$")
-LAWS = ("Beginnings", "Chains", "Heights", "Numbers", "Orders", "Outside", "Positions", "Shapes", "Tidies", "Uses")
+LAWS = ("Beginnings", "Chains", "Heights", "Numbers", "Orders", "Positions", "Shapes", "Tidies", "Uses", "Watches")
 
 
 def run(*words, folder=ROOT):

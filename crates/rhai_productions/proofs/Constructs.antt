@@ -1,10 +1,10 @@
 -- What each law's table has of constructs: a lemma with a line for each kind.
-use Rattle.std.proofs.Common.{◌≡◌, ◌∙◌, ◌+◌, ℕ, Option, [], ap, arith, refl, subst}
+use Rattle.std.proofs.Common.{◌≡◌, ◌∙◌, ◌+◌, ℕ, Bool, List, Option, [], ap, arith, refl, subst}
 use Rattle.std.specs.Prelude.{◌==◌}
 use Rattle.std.proofs.lemmas.Nat.{and_or_apart}
 use Rattle.rhai_lower.specs.Nodes as node
 use Rattle.rhai_grammar.specs.Prelude.{Context, Lexeme, Library, Live, Position, Text, WellNumberedBlock, catch_live}
-use Rattle.rhai_grammar.specs.Prelude.{loop_body, loop_live}
+use Rattle.rhai_grammar.specs.Prelude.{SlotValue, loop_body, loop_live}
 use Rattle.rhai_grammar.specs.Rules as P
 use Rattle.rhai_grammar.specs.declared.role.Construct.{Construct as Kind}
 use Rattle.rhai_grammar.specs.declared.role.Construct.TheVariants as kind
@@ -13,7 +13,7 @@ use Rattle.rhai_grammar.proofs.NumberSteps as N
 use Rattle.rhai_reading.specs.Reading as R
 use Rattle.rhai_reading.specs.Reading.{body}
 use Rattle.rhai_productions.specs.Numbered.{Leaves}
-use Rattle.rhai_productions.specs.Quiet.{Off, Outside, Quiet}
+use Rattle.rhai_productions.specs.Watched.{IsWithin, Watches}
 use Rattle.rhai_productions.specs.Readers.{run}
 use Rattle.rhai_productions.specs.Shaped.{at_level}
 use Rattle.rhai_productions.specs.Tidiness.{Tidy}
@@ -55,19 +55,20 @@ tidy_construct c w at kind.Do = λ b n x. tt
 tidy_construct c w at kind.For = λ ns x b. tt
 tidy_construct c w at kind.Try = λ b n h. tt
 
--- outside of closures they capture nothing
-in_loop : (c : Context) → Off c → Off (loop_body c)
+-- they use no name; their parts are in the same closure
+in_loop : {within : Bool} (c : Context) → IsWithin within c → IsWithin within (loop_body c)
 in_loop c i = ap (λ n. n == 4) (and_or_apart 4 c.settings.flags 8 refl) ∙ i
 
-pub quiet_construct : (c : Context) (w : Live) (at : Position) (k : Kind) → Off c → Quiet Outside (P.construct c w at k)
-quiet_construct c w at kind.Block o = (o, λ b. tt)
-quiet_construct c w at kind.If o = (o, λ f. tt)
-quiet_construct c w at kind.Switch o = (o, λ x l p. (o, λ all. tt))
-quiet_construct c w at kind.While o = (o, λ x. (in_loop c o, λ b. tt))
-quiet_construct c w at kind.Loop o = (in_loop c o, λ b. tt)
-quiet_construct c w at kind.Do o = (in_loop c o, λ b. (tt, λ n. (o, λ x. tt)))
-quiet_construct c w at kind.For o = (tt, λ ns. (o, λ x. (in_loop c o, λ b. tt)))
-quiet_construct c w at kind.Try o = (o, λ b. (tt, λ n. (o, λ h. tt)))
+pub watches_construct : (within may : Bool) (slots : List SlotValue) (c : Context) (w : Live) (at : Position)
+    (k : Kind) → IsWithin within c → Watches within may slots (P.construct c w at k)
+watches_construct within may slots c w at kind.Block o = (o, λ b. tt)
+watches_construct within may slots c w at kind.If o = (o, λ f. tt)
+watches_construct within may slots c w at kind.Switch o = (o, λ x l p. (o, λ all. tt))
+watches_construct within may slots c w at kind.While o = (o, λ x. (in_loop c o, λ b. tt))
+watches_construct within may slots c w at kind.Loop o = (in_loop c o, λ b. tt)
+watches_construct within may slots c w at kind.Do o = (in_loop c o, λ b. (tt, λ n. (o, λ x. tt)))
+watches_construct within may slots c w at kind.For o = (tt, λ ns. (o, λ x. (in_loop c o, λ b. tt)))
+watches_construct within may slots c w at kind.Try o = (o, λ b. (tt, λ n. (o, λ h. tt)))
 
 -- their readers stay within the room that there is
 pub height_of_construct : (c : Context) (w : Live) (at : Position) (k : Kind) → Limits c

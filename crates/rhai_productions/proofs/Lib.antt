@@ -15,8 +15,8 @@ pub mod Heights
 pub mod Passing
 pub mod Refusals
 pub mod Wherever
-pub mod Outside
 pub mod Watches
+pub mod Watching
 pub mod Keeping
 pub mod NumberTrees
 pub mod NumbersOfOperands

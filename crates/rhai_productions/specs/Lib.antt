@@ -3,7 +3,6 @@ pub mod Tidiness
 pub mod Agreement
 pub mod Laws
 pub mod EventLaws
-pub mod Quiet
 pub mod Watched
 pub mod Kept
 pub mod Numbered

@@ -8,7 +8,6 @@ ghost use Rattle.rhai_productions.specs.LibraryLaws.{LibrariesStayOrderly};
 ghost use Rattle.rhai_productions.specs.NestLaws.{FormsNestWithin, ReadersNestWithin};
 ghost use Rattle.rhai_productions.specs.Numbered.{TreesAreWellNumbered};
 ghost use Rattle.rhai_productions.specs.PositionLaws.{RefusalsStandAtTokens};
-ghost use Rattle.rhai_productions.specs.Quiet.{NothingIsCaptured};
 ghost use Rattle.rhai_grammar.specs.Rules.{production};
 ghost use Rattle.rhai_productions.specs.Runs.{ExpressionsAreRuns, RunsAreExpressions};
 ghost use Rattle.rhai_productions.specs.Shaped.{TreesKeepShape};
@@ -16,7 +15,7 @@ ghost use Rattle.rhai_productions.specs.SlotLaws.{NoSlot, NumberedSlot, ScopesCl
 ghost use Rattle.rhai_productions.specs.StartLaws.{StartsOfExpressions};
 ghost use Rattle.rhai_productions.specs.StreamLaws.{FormsAreFair, StreamsAreWhole};
 ghost use Rattle.rhai_productions.specs.UseLaws.{FunctionsReadTheirUses};
-ghost use Rattle.rhai_productions.specs.Watched.{NamesAreCaptured};
+ghost use Rattle.rhai_productions.specs.Watched.{ClosuresCaptureTheirUses, NamesAreUsed, NothingIsCaptured};
 
 /// A form that fits is spelled by the tokens that were taken, and leaves the functions that end in it and its free
 /// uses; one that is refused leaves the first of these functions.
@@ -76,14 +75,23 @@ pub fn captured_are_used()
     ensures { CapturedAreUsed }
 {}
 
-/// A name is captured exactly in a closure, where it is free and the next token does not exclude its use.
-#[tactic(auto, using(crate::proofs::Watches::names_are_captured))]
-pub fn names_are_captured()
-    ensures { NamesAreCaptured }
+/// A name is used by an operand that is a name, unless the next token excludes that, and where a closure ends that
+/// captures it; no other production uses a name. In a closure a use is captured exactly where no live slot has the
+/// name, nor a function that has ended.
+#[tactic(auto, using(crate::proofs::Watching::names_are_used))]
+pub fn names_are_used()
+    ensures { NamesAreUsed }
+{}
+
+/// A closure captures the names that are used in its body where no live slot has them, nor a function that has ended,
+/// each at its first use.
+#[tactic(auto, using(crate::proofs::Watching::closures_capture_their_uses))]
+pub fn closures_capture_their_uses()
+    ensures { ClosuresCaptureTheirUses }
 {}
 
 /// Outside of closures nothing is captured.
-#[tactic(auto, using(crate::proofs::Outside::nothing_is_captured))]
+#[tactic(auto, using(crate::proofs::Watching::nothing_is_captured))]
 pub fn nothing_is_captured()
     ensures { NothingIsCaptured }
 {}
