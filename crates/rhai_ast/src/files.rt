@@ -8,11 +8,11 @@ use crate::settings::Settings;
 use crate::source::{NotText, read_bytes, script_of, source_of, text_of};
 use rhai_formats::accepted;
 use rhai_json::{diagnostic_json, names_json, tokens_json, tree_json};
-use rhai_names::names::names_of;
 use rhai_report::{Report, Source};
 use rhai_run::names_lines;
 use rhai_script::{AST, ParseError, ParseErrorType};
 use rhai_tokenizer::tokenize;
+use rhai_tree_names::names_of;
 use std::alloc::{AllocError, Global};
 use std::io;
 

@@ -1,6 +1,6 @@
 //! The printed lines of the names that functions need, as `f/1: free y, z; calls g/1`.
 
-use rhai_names::names::FnNames;
+use rhai_tree_names::FnNames;
 use std::alloc::{AllocError, Global};
 
 // Names with commas between them; `-` if there are none.

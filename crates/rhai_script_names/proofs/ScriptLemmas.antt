@@ -26,9 +26,9 @@ use Rattle.rhai_lower.specs.Slots.{SlotValue}
 use Rattle.rhai_lower.specs.Nodes.{Function}
 use Rattle.rhai_lower.specs.Texts.{Text}
 use Rattle.rhai_parser.specs.Scripts.{ReadsScript, functions_in}
-use Rattle.rhai_names.specs.FnNames.{AreNamesOf, IsNamesOf, IsNamesOfWritten}
+use Rattle.rhai_tree_names.specs.FnNames.{AreNamesOf, IsNamesOf, IsNamesOfWritten}
 use Rattle.rhai_script_names.specs.Scripts.{Answer, AreNamesAfter, ReadsNames}
-use Rattle.rhai_names.specs.declared.names.FnNames.{FnNames}
+use Rattle.rhai_tree_names.specs.declared.names.FnNames.{FnNames}
 
 written : (w : WrittenFunction) (x : FnNames) → ReadsItsUses w → IsNamesOf w.ended.function x → IsNamesOfWritten w x
 written w x u h = record {

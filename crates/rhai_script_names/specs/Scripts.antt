@@ -18,8 +18,8 @@ use Rattle.rhai_grammar.specs.Rules.{production}
 use Rattle.rhai_productions.specs.WrittenFunctions as functions
 use Rattle.rhai_productions.specs.WrittenFunctions.{WrittenFunction}
 use Rattle.rhai_parser.specs.Scripts.{ReadsScript, function_views, functions_in}
-use Rattle.rhai_names.specs.FnNames.{AreNamesOf, IsNamesOfWritten}
-use Rattle.rhai_names.specs.declared.names.FnNames.{FnNames}
+use Rattle.rhai_tree_names.specs.FnNames.{AreNamesOf, IsNamesOfWritten}
+use Rattle.rhai_tree_names.specs.declared.names.FnNames.{FnNames}
 
 -- the statements and functions of a script, as the parser answers
 abbrev pub Answer : Type 0

@@ -2,11 +2,11 @@
 
 use crate::libraries::{Functions, holds_ended};
 use crate::script::{stream_of_line, tokens_taken};
-use rhai_names::names::FnNames;
 use rhai_parser::{
     Engine, FnLib, ParseError, ParseErrorType, ParseResult, ParseState, TokenizerControl,
 };
 use rhai_script_names::names_of_script;
+use rhai_tree_names::FnNames;
 use std::alloc::{AllocError, Global};
 use std::process::Abort;
 use std::test::Fail;

@@ -10,7 +10,7 @@ use Rattle.rhai_readers.specs.Engines.{script_settings}
 use Rattle.rhai_parser.specs.Nesting.{NestsAsWritten, StaysWithin}
 use Rattle.rhai_parser.specs.Scripts.{ReadsScript}
 use Rattle.rhai_parser.specs.Starts.{live_in, starts_in}
-use Rattle.rhai_names.specs.FnNames.{AreNamesOf}
+use Rattle.rhai_tree_names.specs.FnNames.{AreNamesOf}
 use Rattle.rhai_script_names.specs.Scripts.{Answer, ReadsNames}
 use Rattle.rhai_script_names.proofs.ScriptLemmas.{names_read, names_refused, names_unmade}
 use Rattle.rhai_script_names.proofs.script.names_of_script.Goals as goal
