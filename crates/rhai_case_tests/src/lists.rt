@@ -5,12 +5,11 @@
 use rhai_formats::{
     Escaped, ListError, Refused, TokenList, answered, decimal, read_lines, read_list,
 };
+use rhai_names::{FnNames, names_of_script};
 use rhai_parser::{
     AST, Engine, FnLib, LangOptions, OptimizationLevel, ParseResult, ParseState, Token,
     TokenStream, TokenizerControl,
 };
-use rhai_script_names::names_of_script;
-use rhai_tree_names::FnNames;
 use std::alloc::{AllocError, Global};
 use std::process::Abort;
 use std::test::Fail;

@@ -2,11 +2,10 @@
 
 use crate::libraries::{Functions, holds_ended};
 use crate::script::{stream_of_line, tokens_taken};
+use rhai_names::{FnNames, names_of_script};
 use rhai_parser::{
     Engine, FnLib, ParseError, ParseErrorType, ParseResult, ParseState, TokenizerControl,
 };
-use rhai_script_names::names_of_script;
-use rhai_tree_names::FnNames;
 use std::alloc::{AllocError, Global};
 use std::process::Abort;
 use std::test::Fail;

@@ -27,7 +27,7 @@ use Rattle.rhai_lower.specs.Nodes.{Function}
 use Rattle.rhai_lower.specs.Texts.{Text}
 use Rattle.rhai_parser.specs.Scripts.{ReadsScript, functions_in}
 use Rattle.rhai_tree_names.specs.FnNames.{AreNamesOf, IsNamesOf, IsNamesOfWritten}
-use Rattle.rhai_script_names.specs.Scripts.{Answer, AreNamesAfter, ReadsNames}
+use Rattle.rhai_names.specs.Scripts.{Answer, AreNamesAfter, ReadsNames}
 use Rattle.rhai_tree_names.specs.declared.names.FnNames.{FnNames}
 
 written : (w : WrittenFunction) (x : FnNames) → ReadsItsUses w → IsNamesOf w.ended.function x → IsNamesOfWritten w x

@@ -11,9 +11,9 @@ use Rattle.rhai_parser.specs.Nesting.{NestsAsWritten, StaysWithin}
 use Rattle.rhai_parser.specs.Scripts.{ReadsScript}
 use Rattle.rhai_parser.specs.Starts.{live_in, starts_in}
 use Rattle.rhai_tree_names.specs.FnNames.{AreNamesOf}
-use Rattle.rhai_script_names.specs.Scripts.{Answer, ReadsNames}
-use Rattle.rhai_script_names.proofs.ScriptLemmas.{names_read, names_refused, names_unmade}
-use Rattle.rhai_script_names.proofs.script.names_of_script.Goals as goal
+use Rattle.rhai_names.specs.Scripts.{Answer, ReadsNames}
+use Rattle.rhai_names.proofs.ScriptLemmas.{names_read, names_refused, names_unmade}
+use Rattle.rhai_names.proofs.script.names_of_script.Goals as goal
 
 pub returns-in_err-functions-clause-reads : goal.returns-in_err-functions-clause-reads
 returns-in_err-functions-clause-reads c = λ fresh.

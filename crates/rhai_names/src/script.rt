@@ -8,7 +8,7 @@ ghost use Rattle.rhai_base.specs.States.{IsFresh};
 ghost use Rattle.rhai_grammar.specs.Causes.{MemoryIsNowhere};
 ghost use Rattle.rhai_grammar.specs.Cursors.{cursor_of};
 ghost use Rattle.rhai_grammar.specs.Promises.{HasRead, UnlessMemory};
-ghost use Rattle.rhai_script_names.specs.Scripts.{ReadsNames};
+ghost use Rattle.rhai_names.specs.Scripts.{ReadsNames};
 ghost use Rattle.rhai_readers.specs.Engines.{script_settings};
 ghost use Rattle.rhai_parser.specs.Nesting.{KeepsCounts, NestsAsWritten, StaysWithin};
 ghost use Rattle.rhai_parser.specs.Starts.{KeepsOrder, KeepsState, live_in, starts_in};
