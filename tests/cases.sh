@@ -1,8 +1,7 @@
 #!/usr/bin/env bash
 # Runs the table of cases, and the examples that have an answer. Each goes through the program, and a run that fails is
-# printed. If files are named, only their cases are run. cases/README.md describes the format of a case. Where no file
-# is named, it also compares the code that README.md and docs/ARCHITECTURE.md show with what tests call, as two more
-# runs. The last line counts the runs; the exit status is 1 if any failed.
+# printed. If files are named, only their cases are run. cases/README.md describes the format of a case. The last line
+# counts the runs; the exit status is 1 if any failed.
 #
 # usage: tests/cases.sh [PROGRAM] [FILE.txt ..]
 #
@@ -120,20 +119,6 @@ run_example() {
     run "$words" 0
 }
 
-# Compares the code that the document $1 shows with the function $2 of a test of the crate $3.
-compare_code() {
-    local shown called
-    file=$1
-    title="its code, and that of crates/$3/src/readme.rt"
-    shown=$(sed -n '/^```rust$/,/^```$/{/^```/!p}' "$root/$1")
-    called=$(sed -n "/^fn $2(/,/^}\$/p" "$root/crates/$3/src/readme.rt")
-    if [ -n "$shown" ] && [ "$shown" = "$called" ]; then
-        passed=$((passed + 1))
-    else
-        fail "shown:"$'\n'"$shown"$'\n'"called:"$'\n'"$called"
-    fi
-}
-
 files=("$root"/tests/cases/*.txt)
 answers=("$root"/examples/*.out)
 names=() names_program=
@@ -156,10 +141,6 @@ set -f # no globbing: the words of a run are only split at blanks
 other_status= # of an answer with another first word
 for file in "${files[@]}"; do read_file; done
 for file in "${answers[@]}"; do run_example "$file"; done
-if [ $# = 0 ]; then
-    compare_code README.md parse rhai_case_tests
-    compare_code docs/ARCHITECTURE.md parse_tokens rhai_tests
-fi
 other_status=0
 program=$names_program
 for file in "${names[@]}"; do read_file; done

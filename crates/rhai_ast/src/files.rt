@@ -10,9 +10,7 @@ use rhai_formats::accepted;
 use rhai_json::{diagnostic_json, names_json, tokens_json, tree_json};
 use rhai_report::{Report, Source};
 use rhai_run::names_lines;
-use rhai_script::{AST, ParseError, ParseErrorType};
-use rhai_tokenizer::tokenize;
-use rhai_tree_names::names_of;
+use rhai_script::{AST, ParseError, ParseErrorType, names_of, tokenize};
 use std::alloc::{AllocError, Global};
 use std::io;
 

@@ -1,9 +1,8 @@
 //! Lists of tokens, as docs/FORMAT.md describes them: one token on a line.
 
 use rhai_formats::Escaped;
-use rhai_lower::{Entry, LexError, Token};
 use rhai_report::in_file;
-use rhai_tokenizer::{Span, Tokens};
+use rhai_script::{Entry, LexError, Span, Token, Tokens};
 use std::alloc::{AllocError, Global};
 
 fn push_error(out: &mut String, error: &LexError) -> Result<(), AllocError> {

@@ -2,10 +2,8 @@
 
 use crate::settings::Settings;
 use crate::source::script_of;
-use rhai_lower::{Entry, TokenStream};
 use rhai_report::{Source, index_at};
-use rhai_script::{ParseError, Position};
-use rhai_tokenizer::{Tokens, tokenize};
+use rhai_script::{Entry, ParseError, Position, TokenStream, Tokens, tokenize};
 use std::alloc::{AllocError, Global};
 
 /// How many columns a line has in which tokens are numbered.

@@ -4,8 +4,7 @@ use crate::place::refused_token;
 use crate::settings::Settings;
 use crate::source::{NotText, script_of};
 use rhai_report::{Report, Source, Style, print_report, push_visible, report_of};
-use rhai_script::ParseError;
-use rhai_tokenizer::tokenize;
+use rhai_script::{ParseError, tokenize};
 use std::alloc::{AllocError, Global};
 use std::io;
 

@@ -2,12 +2,11 @@
 
 use crate::options::FORBIDDING;
 use clap::ArgMatches;
-use rhai_lower::{TokenStream, is_valid_identifier};
-use rhai_parser::{ParseState, TokenizerControl};
 use rhai_report::Outside;
 use rhai_script::{
-    AST, Engine, FnLib, LangOptions, Limits, OptimizationLevel, ParseResult, Scope, Unoptimized,
-    compile_expression_with, compile_with,
+    AST, Engine, FnLib, LangOptions, Limits, OptimizationLevel, ParseResult, ParseState, Scope,
+    TokenStream, TokenizerControl, Unoptimized, compile_expression_with, compile_with,
+    is_valid_identifier,
 };
 use std::alloc::{AllocError, Global};
 use std::rc::RcStr;

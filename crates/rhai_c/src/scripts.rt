@@ -10,9 +10,8 @@ use rhai_grammar::{ParseError, ParseErrorType, ParseResult};
 use rhai_json::{diagnostic_json, names_json, tokens_json, tree_json};
 use rhai_lower::{AST, OptimizationLevel, Unoptimized};
 use rhai_report::{Outside, Source, index_at, report_of};
-use rhai_script::{compile_expression_with, compile_with};
+use rhai_script::{compile_expression_with, compile_with, names_of};
 use rhai_tokenizer::tokenize;
-use rhai_tree_names::names_of;
 use std::alloc::{AllocError, Global};
 
 /// What a text is read as.

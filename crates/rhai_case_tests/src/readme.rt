@@ -1,10 +1,7 @@
-//! The code of README.md, word for word (tests/cases.sh compares them).
+//! The code of README.md, word for word (tests/documents.py compares them).
 
-use crate::answers::check;
-use rhai_parser::{AST, Engine, ParseResult};
-use rhai_script::{Limits, compile};
+use rhai_script::{AST, Engine, Expr, Limits, ParseResult, Token, compile};
 use std::alloc::Global;
-use std::test::Fail;
 
 fn parse(alloc: Global, text: &str) -> ParseResult<AST> {
     let mut engine = Engine::new(alloc);
@@ -12,16 +9,24 @@ fn parse(alloc: Global, text: &str) -> ParseResult<AST> {
     compile(alloc, &engine, text, Limits::NONE)
 }
 
-#[test]
-fn the_code_of_the_readme(rt: HostRuntime) -> Result<(), Fail> {
-    let alloc = rt.alloc();
-    let script = "fn f(x) { x * 2 } let y = f(1); y";
-    check(&rt, alloc, parse(alloc, script), "accepted")?;
-    check(
-        &rt,
-        alloc,
-        parse(alloc, "let 5"),
-        "E13 1:5 VariableExpected",
-    )?;
-    Ok(())
+// The value of integers that are added and multiplied; none for anything else, or if it is too great.
+fn value(expr: &Expr) -> Option<i64> {
+    match expr {
+        Expr::IntegerConstant(number, _) => Some(*number),
+        Expr::FnCall(call, _) => {
+            let [left, right] = call.args.as_slice() else {
+                return None;
+            };
+            let (left, right) = (value(left)?, value(right)?);
+            match call.op_token {
+                Some(Token::Plus) => left.checked_add(right),
+                Some(Token::Multiply) => left.checked_mul(right),
+                _ => None,
+            }
+        }
+        _ => None,
+    }
 }
+
+#[cfg(test)]
+mod tests;

@@ -1,4 +1,4 @@
-//! The code of docs/ARCHITECTURE.md, word for word (tests/cases.sh compares them).
+//! The code of docs/ARCHITECTURE.md, word for word (tests/documents.py compares them).
 
 ghost use Rattle.std.specs.Prelude.{All, IsTrue};
 ghost use Rattle.rhai_lower.specs.Entries.{may_be_delivered};
