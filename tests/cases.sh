@@ -45,6 +45,15 @@ add_to_list() {
     esac >>"$folder/list"
 }
 
+add_to_answer() {
+    local bytes
+    case $1 in
+    '% '*) printf -v bytes '%b' "${1#% }" ;;
+    *) bytes=$1$'\n' ;;
+    esac
+    answer+=$bytes
+}
+
 # Runs the program once over the list with the words $1. Compares its output with the answer, and its status with $2.
 run() {
     local printed status zero_byte=no
@@ -99,7 +108,7 @@ read_file() {
                 add_to_list "$line"
             else
                 part=answer
-                answer+=$line$'\n'
+                add_to_answer "$line"
             fi
             ;;
         esac

@@ -1,12 +1,14 @@
 #!/usr/bin/env python3
 """Runs texts through `rhai-ast tokens`, and prints each run that fails.
 
-usage: tests/texts.py [PROGRAM]
+usage: tests/texts.py [PROGRAM [PARSER]]
 
 Without PROGRAM it runs the one that `rt run` in crates/rhai_ast built last. It runs the rows of tests/texts.txt, each
 script of examples/ that has a list of tokens beside it, texts that are hard to read, and for each kind of piece a
 short text and a long one: the long one has to take time in proportion. For each script and each row it also refuses
-each request for memory in turn. The last line counts the runs; the exit status is 1 if any failed.
+each request for memory in turn. `rhai-parse` (PARSER, or the one that `rt run` in crates/rhai_parse built last) reads
+back the tokens of the rows and of texts with carriage returns. The last line counts the runs; the exit status is 1 if
+any failed.
 """
 
 import json
@@ -20,8 +22,13 @@ sys.dont_write_bytecode = True
 sys.path.insert(0, str(ROOT / "tests" / "hostile"))
 
 import batch
-from runs import main
+from runs import Runs, main
 from scripts import examples
+
+PARSER = ROOT / "crates/rhai_parse/out/rhai_parse"
+
+# Scripts with carriage returns in a string, in a raw one and in an interpolated one, and a line of the tree of each.
+RETURNS = {r'"a\r"': "Str 1:1 a\r", '#"\r"#': "Str 1:1 \r", "`a\r${b}c\r`": "Str 1:8 c\r"}
 
 # How much longer than in proportion a long text may take: time that grows with the square of the size takes ten times
 # as long, and a busy machine makes a difference.
@@ -109,6 +116,20 @@ def check_hard(runs):
     runs.check("no file", status == 2 and "no such file" in told, told)
 
 
+def check_read_back(runs):
+    """Gives the tokens of texts to `rhai-parse`: a script has the same tree by its text and by its tokens, or both are
+    refused."""
+    parser = Runs(sys.argv[2] if len(sys.argv) > 2 else PARSER)
+    for text in [*(text for _, text, _ in rows()), *RETURNS]:
+        _, lines, _ = tokens(runs, text)
+        status, tree, _ = runs.run("tree", "-", text=text)
+        got, answer, _ = parser.run("script", text="\n".join(lines))
+        same = got == status and (status != 0 or answer == tree)
+        runs.check(f"tokens of {text!r}", same, f"status {got}, {answer!r}, and of the text {status}, {tree!r}")
+        line = RETURNS.get(text, "")
+        runs.check(f"tree of {text!r}", f"{line}\n" in answer, answer)
+
+
 def check_refused(runs):
     """Refuses each request for memory of the examples and of the rows in turn. The run fails, and prints nothing, or it
     does without, and prints the whole list."""
@@ -147,6 +168,7 @@ def make(runs):
     check_rows(runs)
     check_examples(runs)
     check_hard(runs)
+    check_read_back(runs)
     check_refused(runs)
     check_growth(runs)
 

@@ -58,7 +58,7 @@ def runs_of_case(file, text):
         elif not line or line.startswith(b"#"):
             continue
         elif words:
-            answer += line + b"\n"
+            answer += unescaped(line[2:]) if line.startswith(b"% ") else line + b"\n"
         elif line.startswith(b"% "):
             tokens += unescaped(line[2:])
         else:

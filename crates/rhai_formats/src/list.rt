@@ -132,10 +132,6 @@ fn read_line(
     ensures { All (λ e. IsTrue (may_be_delivered e)) entries.new.items }
 {
     let line = str::from_utf8(line).ok().ok_or(LineError::Unreadable)?;
-    // Otherwise a list with other line ends would have an extra carriage return in its texts.
-    if line.ends_with('\r') {
-        return Err(LineError::Unreadable);
-    }
     let (place, rest) = line.split_once(' ').ok_or(LineError::Unreadable)?;
     let pos = position(place).ok_or(LineError::Unreadable)?;
     if rest == "eof" {
@@ -148,7 +144,7 @@ fn read_line(
     Ok(None)
 }
 
-/// The list of these lines, which are separated by line feeds: a token on each, and the end mark on the last one.
+/// The list of these lines, which are separated by line feeds alone: a token on each, and the end mark on the last one.
 /// docs/FORMAT.md describes the format. `Unreadable` names the first line that is not valid or comes after the end
 /// mark; if the end mark is missing, the line after the last one.
 pub fn read_list(alloc: Global, lines: &[u8]) -> Result<TokenList, ListError>
