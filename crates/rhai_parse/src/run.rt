@@ -26,4 +26,6 @@ pub fn run<R: Read, W: Write>(
 }
 
 #[cfg(test)]
+mod rows;
+#[cfg(test)]
 mod tests;

@@ -1,5 +1,5 @@
 //! Tests over readers and writers that fail. Others move one byte at a time, in memory. What the program prints of
-//! which list is in the table of cases.
+//! which list is in `rows`, and in the table of cases.
 
 use super::*;
 use std::alloc::AllocError;
