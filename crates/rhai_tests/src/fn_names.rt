@@ -1,4 +1,4 @@
-//! The call that reads a script for its functions' names. What it finds in which script is in the table of cases.
+//! The call that reads a script for the names that its functions need.
 
 use crate::libraries::{Functions, holds_ended};
 use crate::script::{stream_of_line, tokens_taken};
@@ -35,28 +35,43 @@ fn read(
     Ok(answer)
 }
 
-// Wants a function with this name and so many parameters, free names and calls.
-fn check(rt: &impl Abort, names: &FnNames, name: &str, counts: (usize, usize, usize)) {
-    assert!(rt;
-        names.name.as_str() == name && names.this_type.is_none(),
-        "{name}"
-    );
-    let found = (names.params, names.free.len(), names.calls.len());
-    assert!(rt; found == counts, "{name}");
+// What a function needs: its name, the number of its parameters, its free names, and its calls.
+type Needs = (
+    &'static str,
+    usize,
+    &'static [&'static str],
+    &'static [(&'static str, usize)],
+);
+
+const NEEDS: &[Needs] = &[
+    ("anon$0000000000000000", 3, &[], &[("m", 1)]),
+    ("f", 1, &["c"], &[]),
+    ("g", 0, &[], &[("f", 1)]),
+];
+
+// Whether a function is no method, and needs just this.
+fn needs(names: &FnNames, (name, params, free, calls): Needs) -> bool {
+    let mut same_free = names.free.iter().zip(free.iter());
+    let mut same_calls = names.calls.iter().zip(calls.iter());
+    names.this_type.is_none()
+        && (names.name.as_str(), names.params) == (name, params)
+        && (names.free.len(), names.calls.len()) == (free.len(), calls.len())
+        && same_free.all(|(one, wanted)| one.as_str() == *wanted)
+        && same_calls.all(|(one, wanted)| (one.0.as_str(), one.1) == *wanted)
+}
+
+// Wants these functions, each with just what it needs.
+fn check(rt: &impl Abort, list: &[FnNames], wanted: &[Needs], line: &str) {
+    assert!(rt; list.len() == wanted.len(), "{line}: {list:?}");
+    for (names, wanted) in list.iter().zip(wanted.iter()) {
+        assert!(rt; needs(names, *wanted), "{line}: {names:?}");
+    }
 }
 
 fn names(rt: &impl Abort, alloc: Global) -> Result<(), AllocError> {
     match read(rt, alloc, SCRIPT, FUNCTIONS)? {
         Ok(list) => {
-            assert!(rt; list.len() == 3);
-            let wanted = [
-                ("anon$0000000000000000", (3, 0, 1)),
-                ("f", (1, 1, 0)),
-                ("g", (0, 0, 1)),
-            ];
-            for (names, (name, counts)) in list.iter().zip(wanted) {
-                check(rt, names, name, counts);
-            }
+            check(rt, &list, NEEDS, SCRIPT);
             Ok(())
         }
         Err(error) => {
@@ -74,6 +89,48 @@ fn names_with_ample_memory(rt: HostRuntime) -> Result<(), Fail> {
 #[test]
 fn names_refused(rt: HostRuntime) {
     let _ = names(&rt, rt.alloc());
+}
+
+// Scripts, each with its functions and what they need.
+const ROWS: [(&str, Functions, &[Needs]); 6] = [
+    (
+        "fn f ( x ) { y = x + g ( 1 ) ; z }",
+        &[("f", 1, 17)],
+        &[("f", 1, &["y", "z"], &[("g", 1)])],
+    ),
+    (
+        "fn f () { | a | a + b }",
+        &[("anon$0000000000000000", 2, 10), ("f", 0, 11)],
+        &[
+            ("anon$0000000000000000", 2, &[], &[]),
+            ("f", 0, &["b"], &[]),
+        ],
+    ),
+    (
+        "fn f ( a ) { a in b }",
+        &[("f", 1, 10)],
+        &[("f", 1, &["b"], &[("contains", 2)])],
+    ),
+    (
+        "fn f () { x . g ( 1 ) . h }",
+        &[("f", 0, 13)],
+        &[("f", 0, &["x"], &[("g", 1)])],
+    ),
+    (
+        "fn f () { try { 1 } catch ( e ) { e } }",
+        &[("f", 0, 16)],
+        &[("f", 0, &[], &[])],
+    ),
+    ("fn f () { m :: x }", &[("f", 0, 8)], &[("f", 0, &[], &[])]),
+];
+
+#[test]
+fn names_of_functions(rt: HostRuntime) -> Result<(), Fail> {
+    for (line, functions, wanted) in ROWS {
+        let list = read(&rt, rt.alloc(), line, functions)??;
+        check(&rt, &list, wanted, line);
+    }
+    Ok(())
 }
 
 #[test]

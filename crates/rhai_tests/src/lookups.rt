@@ -77,10 +77,10 @@ fn check_number(
 #[test]
 fn module_numbers_in_trees(rt: HostRuntime) -> Result<(), Fail> {
     for (line, wanted) in [
-        ("import \"a\" as m ; import \"a\" as m ; m :: f ()", 1),
-        ("import \"a\" as m ; import \"a\" as n ; m :: f ()", 2),
-        ("import \"a\" as m ; { import \"a\" as m ; } m :: f ()", 1),
-        ("import \"a\" as m ; import \"a\" as n ; m :: x", 2),
+        ("import \"a\" as m ; import \"b\" as m ; m :: f ()", 1),
+        ("import \"a\" as m ; import \"b\" as n ; m :: f ()", 2),
+        ("import \"a\" as m ; { import \"b\" as m ; } m :: f ()", 1),
+        ("import \"a\" as m ; import \"b\" as n ; m :: x", 2),
         ("import \"a\" as m ; n :: f ()", 0),
     ] {
         check_number(&rt, rt.alloc(), line, wanted)?;

@@ -47,14 +47,17 @@ fn keyword(word: &str) -> Option<Token> {
     Some(match word {
         "as" => Token::As,
         "break" => Token::Break,
+        "catch" => Token::Catch,
         "else" => Token::Else,
         "export" => Token::Export,
         "fn" => Token::Fn,
         "if" => Token::If,
         "import" => Token::Import,
+        "in" => Token::In,
         "let" => Token::Let,
         "return" => Token::Return,
         "switch" => Token::Switch,
+        "try" => Token::Try,
         "while" => Token::While,
         _ => return None,
     })
@@ -71,7 +74,7 @@ fn integer(word: &str) -> Option<Token> {
     })
 }
 
-// A symbol, a keyword, one of the integers that the tests use, the string "a" or the word `this`, or else a name.
+// A symbol, a keyword, an integer or a string that the tests use, the word `this`, or else a name.
 fn token(alloc: Global, word: &str) -> Result<Token, AllocError> {
     let plain = bracket(word)
         .or_else(|| sign(word))
@@ -82,6 +85,7 @@ fn token(alloc: Global, word: &str) -> Result<Token, AllocError> {
     }
     Ok(match word {
         "\"a\"" => Token::StringConstant(RcStr::from_str(alloc, "a")?),
+        "\"b\"" => Token::StringConstant(RcStr::from_str(alloc, "b")?),
         "this" => Token::Reserved(RcStr::from_str(alloc, word)?),
         _ => Token::Identifier(RcStr::from_str(alloc, word)?),
     })
