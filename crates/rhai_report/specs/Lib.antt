@@ -1,5 +1,10 @@
 pub mod Brackets
+pub mod Names
 pub mod Lines
 pub mod Marks
+pub mod Notes
+pub mod Reasons
 pub mod Reports
+pub mod Similar
+pub mod Snippets
 pub mod Visible

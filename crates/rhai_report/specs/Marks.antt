@@ -1,6 +1,8 @@
 -- Marks: bytes of a file, with the line and column of the first one. A script may begin after the start of its file.
-use Rattle.std.specs.Prelude.{◌≡◌, ◌+◌, ◌-◌, ◌^◌, ◌==◌, ℕ, Bool, false, Option, Some, length, min, refl}
-use Rattle.std.specs.Prelude.{codes, slice_index_or, slice_range}
+use Rattle.std.specs.Prelude.{◌≡◌, ◌⊎◌, ◌+◌, ◌-◌, ◌^◌, ◌<◌, ◌≤◌, ◌==◌, ℕ, Bool, false, Option, Some, length, min}
+use Rattle.std.specs.Prelude.{codes, option_map, refl, slice_index_or, slice_range}
+use Rattle.std.specs.Bool.{MatchBool}
+use Rattle.std.specs.List.{slice_get}
 use Rattle.std.specs.Rc.{rc_str_bytes}
 use Rattle.std.specs.Str.{IsCharBoundary, chars}
 use Rattle.rhai_lower.specs.Texts.{Text}
@@ -8,6 +10,7 @@ use Rattle.rhai_lower.specs.declared.token.LexError.TheVariants as error
 use Rattle.rhai_lower.specs.declared.token.Token.{Token}
 use Rattle.rhai_lower.specs.declared.token.Token.TheVariants as token
 use Rattle.rhai_tokenizer.specs.declared.tokens.Span.{Span}
+use Rattle.rhai_tokenizer.specs.declared.tokens.Tokens.{Tokens}
 use Rattle.rhai_report.specs.Lines.{line_at}
 use Rattle.rhai_report.specs.declared.mark.Mark.{Mark}
 
@@ -41,3 +44,22 @@ pub record Marks (text : Text) (bytes : Span) (m : Mark) : Type 0 where
 abbrev pub is_escape : Option Token → Bool
 is_escape (Some (token.LexError (error.ImproperSymbol r))) = slice_index_or (rc_str_bytes r.value.0) 0 0 == 92
 is_escape _ = false
+
+-- the token of this index
+abbrev pub token_at : Tokens → ℕ → Option Token
+token_at tokens index = option_map (λ e. e.token) (slice_get tokens.entries.items index)
+
+-- A mark of a part of these bytes. It is at a character in them, but not at the first one, and ends behind it.
+pub record MarksPart (text : Text) (bytes : Span) (m : Mark) : Type 0 where
+  pub at : ℕ
+  pub after : bytes.start < at
+  pub before : at < bytes.stop
+  pub line : m.line ≡ (line_at text at).number
+  pub column : IsCharBoundary text at → m.column ≡ column_at text at
+  pub start : bytes.start ≤ m.start
+  pub stop : at < m.stop
+
+-- the mark of a token: of its bytes; but an error about an escape may mark this escape alone
+abbrev pub MarksToken : Text → (bytes : Span) → Option Token → Mark → Type 0
+MarksToken text bytes token m =
+    MatchBool (is_escape token) (Marks text bytes m ⊎ MarksPart text bytes m) (Marks text bytes m)

@@ -1,61 +1,65 @@
 //! Names that a text declares, as its tokens tell without a tree.
 
+ghost use Rattle.std.specs.Prelude.{◌≡◌, ◌∷◌, ◌++◌, [], IfOk, List, OnOk, map, option_map, option_to_list};
+ghost use Rattle.std.specs.Rc.{rc_str_bytes};
+ghost use Rattle.rhai_report.specs.Brackets.{token_of};
+ghost use Rattle.rhai_report.specs.Names.{declared_by, declared_in, is_declared, name_in, part_of, place_after};
+ghost use Rattle.rhai_report.specs.declared.declared.Part.{Part};
+
 use rhai_lower::{Entry, Token};
 use std::alloc::{AllocError, Global};
 
-/// What a name may be, by the tokens before it.
+/// What a token is to a declaration.
 #[derive(Clone, Copy, PartialEq, Debug)]
-enum Place {
-    /// No name is declared.
-    Elsewhere,
-    /// After `let` or `const`.
-    Variable,
-    /// After `as`.
-    Alias,
-    /// After `for`, `catch` or `fn`, up to their parentheses.
-    Head,
-    /// In the parentheses of a `for`, `catch` or `fn`.
-    List,
-    /// Between the bars of a closure.
-    Parameters,
+pub enum Part {
+    /// `let` or `const`
+    Binder,
+    /// `as`
+    Renamer,
+    /// `for`, `catch` or `fn`
+    Opener,
+    /// `(`
+    Paren,
+    /// `|`
+    Bar,
+    /// `,`
+    Comma,
+    /// `.`
+    Period,
+    /// A name.
+    Name,
+    /// A text.
+    Text,
+    /// Another token with which an operand may end.
+    End,
+    /// Any other token.
+    Other,
 }
 
-// Whether a bar after a token is an operator.
-fn ends_operand(token: &Token) -> bool {
-    matches!(
-        token,
-        Token::Identifier(_)
-            | Token::Reserved(_)
-            | Token::IntegerConstant(_)
-            | Token::CharConstant(_)
-            | Token::StringConstant(_)
-            | Token::True
-            | Token::False
-            | Token::Unit
-            | Token::RightParen
-            | Token::RightBracket
-            | Token::RightBrace
-    )
-}
-
-// The place after a name, or a token that is none of those that begin a declaration.
-fn place_after_other(place: Place, token: &Token) -> Place {
-    match (place, token) {
-        (Place::Head, Token::LeftParen) => Place::List,
-        (Place::Head, Token::Identifier(_) | Token::StringConstant(_) | Token::Period) => place,
-        (Place::List | Place::Parameters, Token::Identifier(_) | Token::Comma) => place,
-        _ => Place::Elsewhere,
-    }
-}
-
-// The place after a token, where `after_operand` is whether an operand ended before it.
-fn place_after(place: Place, after_operand: bool, token: &Token) -> Place {
+// What a token is to a declaration.
+fn part_of(token: &Token) -> Part
+    ensures { result ≡ part_of token.now }
+{
     match token {
-        Token::Let | Token::Const => Place::Variable,
-        Token::As => Place::Alias,
-        Token::For | Token::Catch | Token::Fn => Place::Head,
-        Token::Pipe if place != Place::Parameters && !after_operand => Place::Parameters,
-        other => place_after_other(place, other),
+        Token::Let | Token::Const => Part::Binder,
+        Token::As => Part::Renamer,
+        Token::For | Token::Catch | Token::Fn => Part::Opener,
+        Token::LeftParen => Part::Paren,
+        Token::Pipe => Part::Bar,
+        Token::Comma => Part::Comma,
+        Token::Period => Part::Period,
+        Token::Identifier(_) => Part::Name,
+        Token::StringConstant(_) => Part::Text,
+        Token::Reserved(_)
+        | Token::IntegerConstant(_)
+        | Token::CharConstant(_)
+        | Token::True
+        | Token::False
+        | Token::Unit
+        | Token::RightParen
+        | Token::RightBracket
+        | Token::RightBrace => Part::End,
+        _ => Part::Other,
     }
 }
 
@@ -68,12 +72,132 @@ pub enum Declared {
     Modules,
 }
 
-// Whether a name at this place is one that is sought.
-fn is_sought(place: Place, declared: Declared) -> bool {
-    match place {
-        Place::Elsewhere => false,
-        Place::Alias => declared == Declared::Modules,
-        _ => declared == Declared::Variables,
+/// Where a name stands, by the tokens before it.
+#[derive(Clone, Copy, PartialEq, Debug)]
+pub struct Place {
+    /// After `let` or `const`.
+    pub bound: bool,
+    /// After `as`.
+    pub renamed: bool,
+    /// After `for`, `catch` or `fn`, up to their parentheses.
+    pub head: bool,
+    /// In the parentheses of a `for`, `catch` or `fn`.
+    pub list: bool,
+    /// Between the bars of a closure.
+    pub bars: bool,
+    /// After an operand, so that a bar is an operator.
+    pub operand: bool,
+}
+
+impl Place {
+    // After a token that leads to no declaration.
+    const ELSEWHERE: Place = Place {
+        bound: false,
+        renamed: false,
+        head: false,
+        list: false,
+        bars: false,
+        operand: false,
+    };
+
+    // Where the text begins.
+    #[tactic(auto, unfolding(crate::specs::Names::in_head, crate::specs::Names::in_list, crate::specs::Names::in_bars))]
+    fn start() -> Place
+        ensures { result ≡ place_after [] }
+    {
+        Place::ELSEWHERE
+    }
+
+    // The place after one more token.
+    #[tactic(auto, unfolding(crate::specs::Names::in_head, crate::specs::Names::in_list, crate::specs::Names::in_bars))]
+    fn after(self, part: Part) -> Place
+        ensures { (before : List Part) → self ≡ place_after before → result ≡ place_after (part ∷ before) }
+    {
+        let Place {
+            head,
+            list,
+            bars,
+            operand,
+            ..
+        } = self;
+        let none = Place::ELSEWHERE;
+        match part {
+            Part::Binder => Place {
+                bound: true,
+                ..none
+            },
+            Part::Renamer => Place {
+                renamed: true,
+                ..none
+            },
+            Part::Opener => Place { head: true, ..none },
+            Part::Paren => Place { list: head, ..none },
+            Part::Bar => Place {
+                bars: !operand && !bars,
+                ..none
+            },
+            Part::Comma => Place { list, bars, ..none },
+            Part::Period => Place { head, ..none },
+            Part::Name => Place {
+                head,
+                list,
+                bars,
+                operand: true,
+                ..none
+            },
+            Part::Text => Place {
+                head,
+                operand: true,
+                ..none
+            },
+            Part::End => Place {
+                operand: true,
+                ..none
+            },
+            Part::Other => none,
+        }
+    }
+
+    // Whether a name here is one that is sought.
+    fn declares(self, declared: Declared) -> bool
+        ensures { (before : List Part) → self ≡ place_after before → result ≡ is_declared declared before }
+    {
+        match declared {
+            Declared::Variables => self.bound || self.head || self.list || self.bars,
+            Declared::Modules => self.renamed,
+        }
+    }
+}
+
+// The name that a token is.
+fn name_in(token: &Token) -> Option<&str>
+    ensures { option_to_list (option_map (λ n. n.now) result) ≡ name_in token.now }
+{
+    match token {
+        Token::Identifier(name) => Some(name.as_str()),
+        _ => None,
+    }
+}
+
+// The name that a token declares, where it stands.
+fn declared_by(place: Place, declared: Declared, token: &Token) -> Option<&str>
+    ensures { (before : List Part) → place ≡ place_after before
+        → option_to_list (option_map (λ n. n.now) result) ≡ declared_by declared before token.now }
+{
+    if place.declares(declared) {
+        name_in(token)
+    } else {
+        None
+    }
+}
+
+// Adds a name that was found.
+fn push_found<'a>(names: &mut Vec<&'a str>, found: Option<&'a str>) -> Result<(), AllocError>
+    ensures { OnOk result (names.new.items ≡ names.old.items ++ option_to_list found.entry) }
+{
+    match found {
+        Some(name) => Ok(names.push(name)?),
+        None => Ok(()),
     }
 }
 
@@ -83,17 +207,16 @@ pub fn declared_names<'a>(
     alloc: Global,
     entries: &'a [Entry],
     declared: Declared,
-) -> Result<Vec<&'a str>, AllocError> {
+) -> Result<Vec<&'a str>, AllocError>
+    ensures { IfOk result (λ names. map (λ n. n.now) names.items ≡ declared_in declared (map token_of entries.now)) }
+{
     let mut names = Vec::new(alloc);
-    let mut place = Place::Elsewhere;
-    let mut after_operand = false;
+    let mut place = Place::start();
     for entry in entries {
-        match &entry.token {
-            Token::Identifier(name) if is_sought(place, declared) => names.push(name.as_str())?,
-            _ => {}
-        }
-        place = place_after(place, after_operand, &entry.token);
-        after_operand = ends_operand(&entry.token);
+        let found = declared_by(place, declared, &entry.token);
+        push_found(&mut names, found)?;
+        let part = part_of(&entry.token);
+        place = place.after(part);
     }
     Ok(names)
 }

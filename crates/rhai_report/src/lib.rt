@@ -12,6 +12,7 @@ pub mod report;
 pub mod similar;
 pub mod snippet;
 pub mod style;
+pub mod text;
 pub mod visible;
 
 pub use mark::{Mark, in_file};

@@ -1,11 +1,12 @@
 //! `Mark`: a position in a file, and the bytes that are underlined there.
 
-ghost use Rattle.std.specs.Prelude.{◌≡◌, false, length, option_map};
-ghost use Rattle.std.specs.Str.{IsCharBoundary, chars};
+ghost use Rattle.std.specs.Prelude.{◌≡◌, IfSome, false, option_map};
+ghost use Rattle.std.specs.Str.{IsCharBoundary};
 ghost use Rattle.rhai_report.specs.Lines.{line_at};
-ghost use Rattle.rhai_report.specs.Marks.{Marks, column_at, is_escape, span_in_file};
+ghost use Rattle.rhai_report.specs.Marks.{Marks, MarksPart, MarksToken, column_at, is_escape, span_in_file};
 
 use crate::line::line_of;
+use crate::text::characters;
 use rhai_lower::{LexError, Position, Token};
 use rhai_tokenizer::Span;
 
@@ -20,13 +21,6 @@ pub struct Mark {
     pub start: usize,
     /// The byte after the last one; that of the start, if no byte is underlined.
     pub stop: usize,
-}
-
-// The number of characters of a text.
-fn characters(text: &str) -> usize
-    ensures { result ≡ length (chars text.now) }
-{
-    text.chars().count()
 }
 
 /// The mark of the bytes from `start` to `stop`, at the place of the byte `at`.
@@ -93,7 +87,9 @@ fn escape_len(token: Option<&Token>) -> usize
 }
 
 // The mark of a wrong escape, which ends with the character at the position.
-fn escape_mark(text: &str, from: usize, span: Span, pos: Position, len: usize) -> Option<Mark> {
+fn escape_mark(text: &str, from: usize, span: Span, pos: Position, len: usize) -> Option<Mark>
+    ensures { IfSome result (MarksPart text.now span) }
+{
     let at = byte_at(text.get(from..)?, pos)?.saturating_add(from);
     if at <= span.start || at >= span.stop {
         return None;
@@ -104,20 +100,41 @@ fn escape_mark(text: &str, from: usize, span: Span, pos: Position, len: usize) -
     Some(mark_at(text, at, start, stop))
 }
 
+/// The mark of bytes of a script, which begins at byte `from` of the file `text`.
+pub fn mark_of_span(text: &str, from: usize, span: Span) -> Mark
+    ensures { Marks text.now (span_in_file from span) result }
+{
+    let Span { start, stop } = in_file(from, span);
+    mark_at(text, start, start, stop)
+}
+
+// The mark of the escape that an error of a string is about, if it is found.
+#[tactic(auto, using(crate::proofs::MarkLemmas::marks_part))]
+fn wrong_escape(
+    text: &str,
+    from: usize,
+    span: Span,
+    pos: Position,
+    token: Option<&Token>,
+) -> Option<Mark>
+    ensures { IfSome result (MarksToken text.now (span_in_file from span) (option_map (λ t. t.now) token.entry)) }
+{
+    let len = escape_len(token);
+    if len == 0 {
+        return None;
+    }
+    escape_mark(text, from, in_file(from, span), pos, len)
+}
+
 /// The mark of a token: its bytes, which are `span` in the script. That of a wrong escape in a string is the escape
 /// alone, at the position `pos` of the error, which is that of the character that spoils it. `text` is the file, in
 /// which the script begins at byte `from`; without a `token` the mark is that of the end.
+#[tactic(auto, using(crate::proofs::MarkLemmas::marks_all))]
 pub fn mark_of(text: &str, from: usize, span: Span, pos: Position, token: Option<&Token>) -> Mark
-    ensures { is_escape (option_map (λ t. t.now) token.entry) ≡ false
-        → Marks text.now (span_in_file from span) result }
+    ensures { MarksToken text.now (span_in_file from span) (option_map (λ t. t.now) token.entry) result }
 {
-    let Span { start, stop } = in_file(from, span);
-    let escape = match escape_len(token) {
-        0 => None,
-        len => escape_mark(text, from, Span { start, stop }, pos, len),
-    };
-    match escape {
+    match wrong_escape(text, from, span, pos, token) {
         Some(mark) => mark,
-        None => mark_at(text, start, start, stop),
+        None => mark_of_span(text, from, span),
     }
 }

@@ -1,7 +1,7 @@
 //! Why a script is refused: the message of the error, and what is said of a symbol that is not allowed.
 
 ghost use Rattle.std.specs.Prelude.{◌≡◌, IfOk, option_map, string_bytes};
-ghost use Rattle.rhai_report.specs.Reports.{reason, symbol};
+ghost use Rattle.rhai_report.specs.Reasons.{reason, symbol};
 
 use rhai_grammar::{InputError, ParseErrorType};
 use rhai_lower::LexError;

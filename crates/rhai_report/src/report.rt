@@ -2,7 +2,8 @@
 
 ghost use Rattle.std.specs.Prelude.{◌≡◌, IfOk, option_map};
 ghost use Rattle.std.specs.List.{position};
-ghost use Rattle.rhai_report.specs.Reports.{IsMarkOf, Tells, first_at, is_at, token_at};
+ghost use Rattle.rhai_report.specs.Marks.{token_at};
+ghost use Rattle.rhai_report.specs.Reports.{IsMarkOf, Tells, first_at, is_at};
 
 use crate::mark::{Mark, mark_of};
 use crate::message::message_of;
@@ -56,8 +57,8 @@ pub struct Report<'a> {
     pub notes: Vec<Note>,
 }
 
-// The token of this index, if there is one.
-fn token_at(tokens: &Tokens, index: usize) -> Option<&Token>
+/// The token of this index, if there is one.
+pub fn token_at(tokens: &Tokens, index: usize) -> Option<&Token>
     ensures { option_map (λ t. t.now) result ≡ token_at tokens.now index }
 {
     let entry = tokens.entries.get(index)?;
@@ -104,7 +105,7 @@ pub fn report_of<'a>(
     error: &'a ParseError,
     outside: Outside<'_>,
 ) -> Result<Report<'a>, AllocError>
-    ensures { IfOk result (Tells source.entry tokens.now index error.now) }
+    ensures { IfOk result (Tells source.entry tokens.now index outside.entry error.now) }
 {
     let ParseError(kind, pos) = error;
     let mark = if pos.is_none() {

@@ -3,7 +3,8 @@ use Rattle.std.proofs.Common.{◌∙◌, ◌+◌, ◌≤◌, ap, length, min, su
 use Rattle.std.specs.Prelude.{slice_range}
 use Rattle.std.specs.Str.{IsCharBoundary, chars}
 use Rattle.rhai_report.specs.declared.line.Line.{Line}
-use Rattle.rhai_report.proofs.MarkLemmas.{got, line_begins, starts_before}
+use Rattle.rhai_report.proofs.LineBounds.{line_begins, starts_before}
+use Rattle.rhai_report.proofs.TextLemmas.{got}
 use Rattle.rhai_report.proofs.mark.mark_at.Goals as goal
 
 pub returns-clause-column : goal.returns-clause-column

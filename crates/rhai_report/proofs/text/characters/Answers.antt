@@ -1,7 +1,7 @@
 -- As many characters are given as the text has.
 use Rattle.std.proofs.Common.{rules}
 use Rattle.std.proofs.lemmas.Str.{chars_from_encodes}
-use Rattle.rhai_report.proofs.mark.characters.Goals as goal
+use Rattle.rhai_report.proofs.text.characters.Goals as goal
 
 pub returns : goal.returns
 returns c = search (rules, chars_from_encodes)
