@@ -1,7 +1,7 @@
 //! `ParseSettings`: the settings under which a construct is parsed, and their raises.
 
-ghost use Rattle.std.specs.Prelude.{◌≡◌, ◌==◌, IfOk, false};
-ghost use Rattle.std.specs.Int.RustNames.{bit_and};
+ghost use Rattle.std.specs.Prelude.{◌≡◌, IfOk, false};
+ghost use Rattle.rhai_grammar.specs.Flags.{has};
 ghost use Rattle.rhai_grammar.specs.Settings.{at_global_level, below_global_level, closure_settings};
 ghost use Rattle.rhai_grammar.specs.Settings.{function_settings, loop_settings};
 ghost use Rattle.rhai_base.specs.Settings.{settings_of, IsDeeper, Raises, RaisesInRun};
@@ -38,14 +38,14 @@ pub struct RunSettings {
 impl ParseSettings {
     /// Whether all of these flags are set. Does not allocate.
     pub fn has_flag(&self, flags: ParseSettingFlags) -> bool
-        ensures { result ≡ (bit_and self.now.flags.0 flags.0 == flags.0) }
+        ensures { result ≡ has self.now.flags.0 flags.0 }
     {
         self.flags.contains(flags)
     }
 
     /// Whether all of these options are set. Does not allocate.
     pub fn has_option(&self, options: LangOptions) -> bool
-        ensures { result ≡ (bit_and self.now.options.0 options.0 == options.0) }
+        ensures { result ≡ has self.now.options.0 options.0 }
     {
         self.options.contains(options)
     }

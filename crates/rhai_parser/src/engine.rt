@@ -1,9 +1,9 @@
 //! `Engine`: the options and limits that scripts are read under.
 
-ghost use Rattle.std.specs.Prelude.{◌≡◌, ◌≤◌, ◌^◌, ◌==◌, ◌++◌, ◌∷◌, [], OnErr, OnOk, map};
-ghost use Rattle.std.specs.Int.RustNames.{bit_and};
+ghost use Rattle.std.specs.Prelude.{◌≡◌, ◌≤◌, ◌^◌, ◌++◌, ◌∷◌, [], OnErr, OnOk, map};
 ghost use Rattle.rhai_base.specs.Frames.{known_variables};
 ghost use Rattle.std.specs.Rc.{rc_str_bytes};
+ghost use Rattle.rhai_grammar.specs.Flags.{has, looping, shadowing};
 ghost use Rattle.rhai_grammar.specs.Imports.{is_among};
 ghost use Rattle.rhai_readers.specs.Engines.{fresh_engine, with_bits, expr_settings};
 
@@ -69,14 +69,14 @@ impl Engine {
 
     /// Whether scripts may have loops.
     pub fn allow_looping(&self) -> bool
-        ensures { result ≡ (bit_and self.now.options 32 == 32) }
+        ensures { result ≡ has self.now.options looping }
     {
         self.config.allow_looping()
     }
 
     /// Sets whether scripts may have loops.
     pub fn set_allow_looping(&mut self, enable: bool)
-        ensures { self.new ≡ record self.old { options = with_bits self.old.options 32 enable } }
+        ensures { self.new ≡ record self.old { options = with_bits self.old.options looping enable } }
     {
         if enable {
             self.config.options |= LangOptions::LOOPING;
@@ -87,14 +87,14 @@ impl Engine {
 
     /// Whether a script may define a variable of a name that is there already.
     pub fn allow_shadowing(&self) -> bool
-        ensures { result ≡ (bit_and self.now.options 128 == 128) }
+        ensures { result ≡ has self.now.options shadowing }
     {
         self.config.allow_shadowing()
     }
 
     /// Sets whether a script may define a variable of a name that is there already.
     pub fn set_allow_shadowing(&mut self, enable: bool)
-        ensures { self.new ≡ record self.old { options = with_bits self.old.options 128 enable } }
+        ensures { self.new ≡ record self.old { options = with_bits self.old.options shadowing enable } }
     {
         if enable {
             self.config.options |= LangOptions::SHADOWING;

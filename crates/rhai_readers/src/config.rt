@@ -1,7 +1,7 @@
 //! `Config`: the options and limits that scripts are read under.
 
-ghost use Rattle.std.specs.Prelude.{◌≡◌, ◌==◌};
-ghost use Rattle.std.specs.Int.RustNames.{bit_and};
+ghost use Rattle.std.specs.Prelude.{◌≡◌};
+ghost use Rattle.rhai_grammar.specs.Flags.{has, looping, shadowing};
 
 use bitflags::Flags;
 use rhai_base::LangOptions;
@@ -92,14 +92,14 @@ impl Config {
 
     /// Whether scripts may have loops.
     pub fn allow_looping(&self) -> bool
-        ensures { result ≡ (bit_and self.now.options 32 == 32) }
+        ensures { result ≡ has self.now.options looping }
     {
         self.options.contains(LangOptions::LOOPING)
     }
 
     /// Whether a script may define a variable of a name that is there already.
     pub fn allow_shadowing(&self) -> bool
-        ensures { result ≡ (bit_and self.now.options 128 == 128) }
+        ensures { result ≡ has self.now.options shadowing }
     {
         self.options.contains(LangOptions::SHADOWING)
     }
