@@ -17,7 +17,7 @@ use Rattle.rhai_lower.specs.Nodes as node
 use Rattle.rhai_lower.specs.Nodes.{Arms, Cases}
 use Rattle.rhai_lower.specs.declared.token.Token.TheVariants as token
 use Rattle.rhai_grammar.specs.Operators as O
-use Rattle.rhai_grammar.specs.TreeNumbers.{AreWellShared, IsReused, WellNumberedArms, WellNumberedCases}
+use Rattle.rhai_grammar.specs.TreeNumbers.{AllLinks, AreWellShared, IsCollected, IsReused, WellNumberedArms, WellNumberedCases}
 use Rattle.rhai_grammar.specs.TreeNumbers.{names_in_loop}
 use Rattle.rhai_grammar.specs.TreeNumbers.{number_among}
 use Rattle.rhai_grammar.specs.declared.role.Effect.{Effect}
@@ -88,10 +88,6 @@ closure at n (u ∷ us) names w = (shares (u ∷ us) w.slots, ((tt, handed (u �
 
 -- ---- chains
 
-abbrev pub AllLinks : List Text → List Link → Type 0
-AllLinks ns [] = Unit {0}
-AllLinks ns (l ∷ ls) = WellNumbered ns l.item × AllLinks ns ls
-
 joined_links : (ns : List Text) (a b : List Link) → AllLinks ns a → AllLinks ns b → AllLinks ns (a ++ b)
 joined_links ns [] b h k = k
 joined_links ns (l ∷ a) b h k = (h.0, joined_links ns a b h.1 k)
@@ -156,9 +152,6 @@ operator ns joins.NoMembership op p a b h i = ((i, (h, tt)), tt)
 operator ns joins.Call op p a b h i = (h, (i, tt))
 
 -- ---- `switch`
-
-abbrev pub IsCollected : List Text → Collected → Type 0
-IsCollected ns x = WellNumberedArms ns x.arms × WellNumberedCases ns x.cases
 
 one_arm : (ns : List Text) (x : Arms) (g a : Node) → WellNumberedArms ns x → WellNumbered ns g → WellNumbered ns a
     → WellNumberedArms ns (node.with_arm x g a)

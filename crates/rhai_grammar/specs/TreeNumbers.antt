@@ -15,9 +15,11 @@ use Rattle.rhai_lower.specs.Positions.{place}
 use Rattle.rhai_lower.specs.Texts.{Text}
 use Rattle.rhai_lower.specs.declared.position.Position.{Position}
 use Rattle.rhai_lower.specs.Slots.{SlotValue, fresh_slot}
+use Rattle.rhai_grammar.specs.Chains.{Link}
 use Rattle.rhai_grammar.specs.Keys.{is_closure}
 use Rattle.rhai_grammar.specs.Libraries.{Ended, Library}
 use Rattle.rhai_grammar.specs.Slots.{number}
+use Rattle.rhai_grammar.specs.Switches.{Collected}
 
 -- ---- names
 
@@ -158,6 +160,14 @@ abbrev mutual
   pub WellNumberedCases : List Text → Cases → Type 0
   WellNumberedCases names no_cases = Unit {0}
   WellNumberedCases names (one_case value arms cases) = WellNumbered names value × WellNumberedCases names cases
+
+-- So it is in each of these links, and in the arms and cases of a `switch` up to some arm.
+abbrev pub AllLinks : List Text → List Link → Type 0
+AllLinks names [] = Unit {0}
+AllLinks names (link ∷ links) = WellNumbered names link.item × AllLinks names links
+
+abbrev pub IsCollected : List Text → Collected → Type 0
+IsCollected names before = WellNumberedArms names before.arms × WellNumberedCases names before.cases
 
 -- A function or closure that captures these names has them as its first parameters, and then these of its own. The
 -- numbers in its body are right where its own parameters are live; the captured names have no number there.

@@ -24,7 +24,7 @@ use Rattle.rhai_grammar.specs.declared.role.ItemRole.{ItemRole}
 use Rattle.rhai_grammar.specs.declared.role.Linking.{Linking}
 use Rattle.rhai_grammar.specs.declared.role.OperandStart.{OperandStart}
 use Rattle.rhai_grammar.proofs.NumberSteps as N
-use Rattle.rhai_grammar.proofs.NumberSteps.{AllLinks, IsCollected}
+use Rattle.rhai_grammar.specs.TreeNumbers.{AllLinks, IsCollected}
 use Rattle.rhai_grammar.specs.Strengths.{continues}
 use Rattle.rhai_grammar.specs.Productions.{Production}
 use Rattle.rhai_grammar.specs.Rules as P

@@ -11,7 +11,7 @@ use Rattle.rhai_grammar.specs.Demands.{Nothing, Met}
 use Rattle.rhai_grammar.specs.Delivered.{Point}
 use Rattle.rhai_grammar.specs.declared.role.Bars.{Bars}
 use Rattle.rhai_grammar.specs.declared.role.Bars.TheVariants as bars
-use Rattle.rhai_grammar.proofs.NumberSteps.{AllLinks, IsCollected}
+use Rattle.rhai_grammar.specs.TreeNumbers.{AllLinks, IsCollected}
 use Rattle.rhai_reading.specs.Reading as R
 use Rattle.rhai_grammar.specs.Goals.{Goal, Val, Whole, Script}
 use Rattle.rhai_grammar.specs.Rules.{production}
