@@ -8,7 +8,7 @@ FUNCTION = re.compile(r"^fn (\S+): (?:not proved|no proof)(.*)$", re.MULTILINE)
 IN_CODE = re.compile(r"^note: (?:\./)?(src/\S+?):(\d+):\d+: .*?\(`([^`]*)`", re.MULTILINE)
 BY_HAND = re.compile(r"^(?:note: )?(?:\./)?proofs/(\S+)\.antt:\S+ error: (?:`([^`]*)`)?", re.MULTILINE)
 ROWS = re.compile(r"LinesOf|RowsOf|Worked|\w+RowLemmas$")
-LAWS = ("Beginnings", "Chains", "Heights", "Numbers", "Orders", "Positions", "Shapes", "Tidies", "Uses", "Watches")
+LAWS = ("Beginnings", "Chains", "Numbers", "Orders", "Positions", "Shapes", "Tidies", "Uses", "Watches")
 
 
 def function_at(path, line):

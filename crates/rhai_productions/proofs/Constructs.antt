@@ -1,5 +1,5 @@
 -- What each law's table has of constructs: a lemma with a line for each kind.
-use Rattle.std.proofs.Common.{◌≡◌, ◌∙◌, ◌+◌, ℕ, Bool, List, Option, [], ap, arith, refl, subst}
+use Rattle.std.proofs.Common.{◌≡◌, ◌∙◌, ℕ, Bool, List, Option, [], ap, refl, subst}
 use Rattle.std.specs.Prelude.{◌==◌}
 use Rattle.std.proofs.lemmas.Nat.{and_or_apart}
 use Rattle.rhai_lower.specs.Nodes as node
@@ -17,8 +17,6 @@ use Rattle.rhai_productions.specs.Watched.{IsWithin, Watches}
 use Rattle.rhai_productions.specs.Readers.{run}
 use Rattle.rhai_productions.specs.Shaped.{at_level}
 use Rattle.rhai_productions.specs.Tidiness.{Tidy}
-use Rattle.rhai_productions.proofs.HeightsOfOperands.{HoldsIn}
-use Rattle.rhai_productions.proofs.HeightsWithin.{Limits, in_loops, room}
 use Rattle.rhai_productions.proofs.MentionLemmas.{Only, after, both, on, prepended, still}
 use Rattle.rhai_productions.proofs.NearGoals.{arm_lists, blocks, braced_blocks, catches, conditionals, do_ends}
 use Rattle.rhai_productions.proofs.NearGoals.{expressions_, guards, iterated_, variables}
@@ -69,18 +67,6 @@ watches_construct within may slots c w at kind.Loop o = (in_loop c o, λ b. tt)
 watches_construct within may slots c w at kind.Do o = (in_loop c o, λ b. (tt, λ n. (o, λ x. tt)))
 watches_construct within may slots c w at kind.For o = (tt, λ ns. (o, λ x. (in_loop c o, λ b. tt)))
 watches_construct within may slots c w at kind.Try o = (o, λ b. (tt, λ n. (o, λ h. tt)))
-
--- their readers stay within the room that there is
-pub height_of_construct : (c : Context) (w : Live) (at : Position) (k : Kind) → Limits c
-    → HoldsIn (room c + 4) (P.construct c w at k)
-height_of_construct c w at kind.Block p = (p, omega arith, λ b. tt)
-height_of_construct c w at kind.If p = (p, omega arith, λ f. tt)
-height_of_construct c w at kind.Switch p = (p, omega arith, λ x n q. (p, omega arith, λ all. tt))
-height_of_construct c w at kind.While p = (p, omega arith, λ x. (p, omega (arith, in_loops c), λ b. tt))
-height_of_construct c w at kind.Loop p = (p, omega (arith, in_loops c), λ b. tt)
-height_of_construct c w at kind.Do p = (p, omega (arith, in_loops c), λ b. (tt, omega arith, λ n. (p, omega arith, λ x. tt)))
-height_of_construct c w at kind.For p = (tt, omega arith, λ ns. (p, omega arith, λ x. (p, omega (arith, in_loops c), λ b. tt)))
-height_of_construct c w at kind.Try p = (p, omega arith, λ b. (tt, omega arith, λ n. (p, omega arith, λ x. tt)))
 
 -- their refusals stand at tokens
 module _ (G : Position → Type 0) where

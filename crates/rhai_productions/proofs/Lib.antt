@@ -38,11 +38,6 @@ pub mod Standing
 pub mod PositionsOfOperands
 pub mod PositionsOfStatements
 pub mod Positions
-pub mod HeightsWithin
-pub mod HeightsOfOperands
-pub mod HeightsOfStatements
-pub mod HeightsOfGoals
-pub mod ReaderHeights
 pub mod AlwaysLemmas
 pub mod ChainsOfLinks
 pub mod ChainsOfForms

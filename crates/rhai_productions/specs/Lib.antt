@@ -11,7 +11,6 @@ pub mod LibraryLaws
 pub mod PositionLaws
 pub mod SlotLaws
 pub mod StartLaws
-pub mod NestLaws
 pub mod Always
 pub mod ChainForms
 pub mod Runs

@@ -5,7 +5,6 @@ ghost use Rattle.rhai_productions.specs.ClosureLaws.{CapturedAreUsed, Parameters
 ghost use Rattle.rhai_productions.specs.EventLaws.{CapturedAreFreeUses, FormsFitWhereverSpelled};
 ghost use Rattle.rhai_productions.specs.EventLaws.{FormsLeaveTheirEvents};
 ghost use Rattle.rhai_productions.specs.LibraryLaws.{LibrariesStayOrderly};
-ghost use Rattle.rhai_productions.specs.NestLaws.{FormsNestWithin, ReadersNestWithin};
 ghost use Rattle.rhai_productions.specs.Numbered.{TreesAreWellNumbered};
 ghost use Rattle.rhai_productions.specs.PositionLaws.{RefusalsStandAtTokens};
 ghost use Rattle.rhai_grammar.specs.Rules.{production};
@@ -150,18 +149,6 @@ pub fn expressions_are_runs()
 #[tactic(auto, using(crate::proofs::RunsClimb::runs_are_expressions))]
 pub fn runs_are_expressions()
     ensures { RunsAreExpressions }
-{}
-
-/// Where there are limits on depth, no form that fits is deeper than they allow.
-#[tactic(auto, using(crate::proofs::HeightsOfGoals::forms_nest_within))]
-pub fn forms_nest_within()
-    ensures { FormsNestWithin }
-{}
-
-/// Where there are limits on depth, no more readers are active at once than they allow, also after a refusal.
-#[tactic(auto, using(crate::proofs::ReaderHeights::readers_nest_within))]
-pub fn readers_nest_within()
-    ensures { ReadersNestWithin }
 {}
 
 /// The body of a function or closure reads the names that it uses where no live slot has them, and no others.
