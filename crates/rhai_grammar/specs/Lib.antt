@@ -58,5 +58,6 @@ pub mod RulesOfSwitches
 pub mod RulesOfFunctions
 pub mod Rules
 pub mod Forms
+pub mod Runs
 pub mod Events
 pub mod Promises

@@ -108,7 +108,8 @@ binary_of context live at parent lhs None = give lhs
 binary_of context live at parent lhs (Some op) = if continues parent op.0 op.1
     then binary_on context live at parent lhs op else give lhs
 
--- An operand, and the operators after it: one level deeper, which is refused at its first token.
+-- An operand, and the operators after it: one level deeper, which is refused at its first token. So expressions are the
+-- runs of operators (`Runs`): the laws `expressions_are_runs` and `runs_are_expressions` say it in both directions.
 --     expression = operand { binary right }
 abbrev pub expression_of : Context → Live → Production Node
 expression_of context live = here (λ at. raise context at (λ deeper. part (goal.Operand deeper live) (λ x.

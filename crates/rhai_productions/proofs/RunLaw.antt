@@ -16,8 +16,8 @@ use Rattle.rhai_reading.proofs.Strengths.{true_not}
 use Rattle.rhai_grammar.specs.Rules as P
 use Rattle.rhai_grammar.specs.Rules.{production}
 use Rattle.rhai_grammar.specs.Forms.{Form, Filled, form, given, this, choose, here, must, part, demands, demanded}
-use Rattle.rhai_productions.specs.Runs.{Run, just, binary, run_demands, Side, Outermost, RightOf, left_fits, side_fits}
-use Rattle.rhai_productions.specs.Runs.{ExpressionsAreRuns}
+use Rattle.rhai_grammar.specs.Runs.{Run, just, binary, run_demands, Side, Outermost, RightOf, left_fits, side_fits}
+use Rattle.rhai_grammar.specs.Runs.{ExpressionsAreRuns}
 use Rattle.rhai_productions.proofs.Fronts.{front}
 use Rattle.rhai_productions.proofs.Heights.{height, height_in}
 

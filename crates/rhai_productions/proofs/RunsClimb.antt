@@ -15,8 +15,8 @@ use Rattle.rhai_grammar.specs.Rules as P
 use Rattle.rhai_grammar.specs.Rules.{production}
 use Rattle.rhai_grammar.specs.Productions as S
 use Rattle.rhai_grammar.specs.Forms.{Form, Filled, form, given, this, choose, here, must, part, demands, demanded}
-use Rattle.rhai_productions.specs.Runs.{Run, just, binary, run_demands, Side, Outermost, RightOf, First, first_demands}
-use Rattle.rhai_productions.specs.Runs.{raise_after, left_fits, side_fits, RunsAreExpressions}
+use Rattle.rhai_grammar.specs.Runs.{Run, just, binary, run_demands, Side, Outermost, RightOf, First, first_demands}
+use Rattle.rhai_grammar.specs.Runs.{raise_after, left_fits, side_fits, RunsAreExpressions}
 use Rattle.rhai_productions.proofs.Fronts.{front, Front}
 use Rattle.rhai_productions.proofs.RunLaw.{judged}
 

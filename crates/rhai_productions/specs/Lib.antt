@@ -13,7 +13,6 @@ pub mod SlotLaws
 pub mod StartLaws
 pub mod Always
 pub mod ChainForms
-pub mod Runs
 pub mod Shaped
 pub mod StreamLaws
 pub mod Mentions

@@ -8,7 +8,7 @@ ghost use Rattle.rhai_productions.specs.LibraryLaws.{LibrariesStayOrderly};
 ghost use Rattle.rhai_productions.specs.Numbered.{TreesAreWellNumbered};
 ghost use Rattle.rhai_productions.specs.PositionLaws.{RefusalsStandAtTokens};
 ghost use Rattle.rhai_grammar.specs.Rules.{production};
-ghost use Rattle.rhai_productions.specs.Runs.{ExpressionsAreRuns, RunsAreExpressions};
+ghost use Rattle.rhai_grammar.specs.Runs.{ExpressionsAreRuns, RunsAreExpressions};
 ghost use Rattle.rhai_productions.specs.Shaped.{TreesKeepShape};
 ghost use Rattle.rhai_productions.specs.SlotLaws.{NoSlot, NumberedSlot, ScopesClose};
 ghost use Rattle.rhai_productions.specs.StartLaws.{StartsOfExpressions};

@@ -1,5 +1,9 @@
--- Runs: operands that are joined by operators as their strengths say. Forms read the same with the same trees.
-use Rattle.std.specs.Prelude.{Bool, true, Option, Some, None}
+-- Runs: operands that are joined by operators as their strengths say. This is what an expression is; the rule of
+-- expressions (`RulesOfOperands`) climbs along a run, since a rule cannot begin with itself, and gives the same trees.
+use Rattle.std.specs.Prelude.{◌≡◌, Bool, true, false, Option, Some, None, refl}
+use Rattle.rhai_lower.specs.Lexemes.{Sign}
+use Rattle.rhai_lower.specs.Positions.{place}
+use Rattle.rhai_lower.specs.declared.token.Token.TheVariants as token
 use Rattle.rhai_grammar.specs.Prelude.{Lexeme, Position, Context, Live, Node, may_raise, level_up, refusal, position_of}
 use Rattle.rhai_grammar.specs.Prelude.{operator_tree, boolean_holds, mismatched, Demands, ◌▸◌, Tok, Next, Test, Shape}
 use Rattle.rhai_grammar.specs.Prelude.{Met, Point, item, code, follower_of, role_after}
@@ -7,6 +11,7 @@ use Rattle.rhai_grammar.specs.Causes as cause
 use Rattle.rhai_grammar.specs.Strengths.{left_of, right_of, is_operator}
 use Rattle.rhai_grammar.specs.Verdicts.{anything, operator_known, run_ends, raise_due}
 use Rattle.rhai_grammar.specs.declared.filter.ExprFilter.{ExprFilter}
+use Rattle.rhai_grammar.specs.declared.filter.ExprFilter.TheVariants.{All}
 use Rattle.rhai_grammar.specs.Goals.{Operand, RightOperand, Expression}
 use Rattle.rhai_grammar.specs.Rules.{production}
 use Rattle.rhai_grammar.specs.Forms.{Form, demands}
@@ -40,6 +45,14 @@ left_fits filter op (Some inner) = left_of (follower_of filter op) (follower_of 
 abbrev pub side_fits : ExprFilter → Side → Lexeme → Bool
 side_fits filter Outermost inner = true
 side_fits filter (RightOf op c at) inner = right_of (follower_of filter op) (follower_of filter inner)
+
+-- On its left a `+` may have `a * b`, and a `*` may not have `a + b`. On its right a `+` may have `a * b`, and not
+-- `a + b`, since equal operators group to the left.
+example : (c : Context) → (left_fits All (Sign token.Plus) (Some (Sign token.Multiply)) ≡ true)
+    × (left_fits All (Sign token.Multiply) (Some (Sign token.Plus)) ≡ false)
+    × (side_fits All (RightOf (Sign token.Plus) c (place 1 3)) (Sign token.Multiply) ≡ true)
+    × (side_fits All (RightOf (Sign token.Plus) c (place 1 3)) (Sign token.Plus) ≡ false)
+example = λ c. (refl, refl, refl, refl)
 
 -- A run, by the settings of its first operand, those under which its operators begin, and its side; by the settings
 -- after it, and where their next raise is refused; by the operator at its top, and its tree.
