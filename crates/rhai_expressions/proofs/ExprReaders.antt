@@ -1,7 +1,7 @@
 -- Rules for the proofs of the readers of expressions. For each reader they have its equation, and what it makes of what
 -- it read.
 use Rattle.rhai_lower.proofs.Views.{view_property, view_unit, view_variable, views_push}
-use Rattle.rhai_reading.proofs.Outcomes.{bang_refused, operand_sign, sign_outcome}
+use Rattle.rhai_reading.proofs.Outcomes.{none_given, operand_sign, sign_outcome}
 use Rattle.rhai_reading.proofs.Steps.{nested_so, step_arguments, step_binary_op, step_called, step_expression, step_index, step_items, step_links, step_member, step_operand, step_path, step_postfix, step_right_operand}
 use Rattle.rhai_trees.proofs.ChainLemmas.{indexed_after, links_push}
 use Rattle.rhai_trees.proofs.LinkedLemmas.{block_is_value, call_value, method_value, property_value, unit_value, variable_value}
@@ -34,7 +34,7 @@ pub ruleset parse_binary_op = (readers, step_binary_op)
 
 pub ruleset parse_run = (readers)
 
-pub ruleset parse_call = (readers, nested_so, step_called, bang_refused)
+pub ruleset parse_call = (readers, nested_so, step_called, none_given)
 
 pub ruleset parse_links = (readers, step_links)
 

@@ -24,7 +24,7 @@ use rhai_readers::{LentReaders, Shared, nested};
 use rhai_trees::{Chain, Link, LinkKind, indexed_operand, test_links};
 
 impl<R: LentReaders> Reader<'_, R> {
-    /// Reads what calls the name before it; without that, there is no `!` and no argument. A name with a path, which
+    /// Reads what calls the name before it: arguments, which may have a `!` before them. A name with a path, which
     /// `qualified` says it is, may not be called with a `!`. A raise of the arguments' level is refused where the
     /// settings stand.
     #[tactic(auto, using(crate::proofs::ExprReaders::parse_call))]
@@ -40,34 +40,22 @@ impl<R: LentReaders> Reader<'_, R> {
     {
         let (token, pos) = peek(shared.input)?;
         let pos = *pos;
-        let mut calling = what_calls(token);
-        let bang = matches!(calling, Calling::Bang);
+        let bang = matches!(what_calls(token), Calling::Bang);
         if bang {
             skip(shared.input);
             if qualified {
                 return Err(no_bang(self.engine.alloc(), shared.input, pos));
             }
-            calling = arguments_due(self.engine.alloc(), shared.input)?;
         }
-        match calling {
-            Calling::Pair => {
-                skip(shared.input);
-                Ok(Call {
-                    bang,
-                    args: Vec::new(self.engine.alloc()),
-                })
-            }
-            Calling::List => {
-                skip(shared.input);
-                match nested!(shared, self.parse_fn_call_args(shared, frame, settings)) {
-                    Ok(args) => Ok(Call { bang, args }),
-                    Err(error) => Err(error),
-                }
-            }
-            Calling::Bang | Calling::Nothing => Ok(Call {
-                bang,
-                args: Vec::new(self.engine.alloc()),
-            }),
+        let listed = arguments_due(self.engine.alloc(), shared.input)?;
+        skip(shared.input);
+        if !listed {
+            let args = Vec::new(self.engine.alloc());
+            return Ok(Call { bang, args });
+        }
+        match nested!(shared, self.parse_fn_call_args(shared, frame, settings)) {
+            Ok(args) => Ok(Call { bang, args }),
+            Err(error) => Err(error),
         }
     }
 

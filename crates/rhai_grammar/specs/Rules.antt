@@ -15,7 +15,7 @@ use Rattle.rhai_grammar.specs.declared.list.CommaList.TheVariants as lists
 use Rattle.rhai_grammar.specs.Goals as goal
 use Rattle.rhai_grammar.specs.Views as view
 pub use Rattle.rhai_grammar.specs.RulesOfLists.{parted, items_of, arguments_of, element_by, key_by, field_by}
-pub use Rattle.rhai_grammar.specs.RulesOfCalls.{listed, bang_by, called_by, path_next, path_of, call_of}
+pub use Rattle.rhai_grammar.specs.RulesOfCalls.{arguments_by, called_by, path_next, path_of, call_of}
 pub use Rattle.rhai_grammar.specs.Verdicts.{bang_fault}
 pub use Rattle.rhai_grammar.specs.RulesOfCalls.{postfix_of, property_of, member_of, index_of, dotted_by, links_by}
 pub use Rattle.rhai_grammar.specs.RulesOfOperands.{word_of, primary_by, operand_by, right_by, follower_by}

@@ -22,24 +22,19 @@ use Rattle.rhai_grammar.specs.declared.role.Linking.TheVariants as link
 use Rattle.rhai_grammar.specs.Goals as goal
 use Rattle.rhai_grammar.specs.Views as view
 
--- arguments in parentheses, after a name at this position
-abbrev pub listed : Context → Live → Position → Bool → Production (Bool × Nodes)
-listed context live name bang = this (λ _ at. part (goal.Arguments context live name) (λ ns. give (bang, ns)))
-
--- what follows a `!` after a name: an empty pair, or a list of arguments
-abbrev pub bang_by : Context → Live → Position → Calling → Production (Bool × Nodes)
-bang_by context live name calls_by.Pair = this (λ _ at. give (true, no_nodes))
-bang_by context live name calls_by.List = listed context live name true
-bang_by context live name _ = never (missing (codes "("))
-
--- what calls a name: an empty pair, a list of arguments, or either after a `!`; or nothing
+-- the arguments of a name at this position: an empty pair, or a list in parentheses
 --     arguments = "()" | "(" [ list(expression) ] ")"
+abbrev pub arguments_by : Context → Live → Position → (bang : Bool) → Calling → Production (Bool × Nodes)
+arguments_by context live name bang calls_by.Pair = this (λ _ at. give (bang, no_nodes))
+arguments_by context live name bang calls_by.List = this (λ _ at. part (goal.Arguments context live name) (λ ns.
+    give (bang, ns)))
+arguments_by context live name bang _ = never (missing (codes "("))
+
+-- what calls a name: arguments, or a `!` and arguments
 abbrev pub called_by : Context → Live → Position → Bool → Calling → Production (Bool × Nodes)
-called_by context live name qualified calls_by.Pair = this (λ _ at. give (false, no_nodes))
-called_by context live name qualified calls_by.List = listed context live name false
-called_by context live name qualified calls_by.Nothing = give (false, no_nodes)
 called_by context live name qualified calls_by.Bang = this (λ _ at. choose view.Calls (λ v.
-    unless qualified (bang_fault (is_list v) at) (bang_by context live name v)))
+    unless qualified (bang_fault (is_list v) at) (arguments_by context live name true v)))
+called_by context live name qualified v = arguments_by context live name false v
 
 -- more of a path, as long as a `::` follows
 abbrev pub path_next : Live → Node → Production Node

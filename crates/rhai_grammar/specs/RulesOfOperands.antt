@@ -64,9 +64,8 @@ primary_by context live (begin.Construct kind) = if may_be_value context kind
     else never no_operand
 primary_by context live (begin.Closure by) = if may_be_closure context by
     then this (λ _ at. part (goal.Closure context live at by) give) else never no_operand
-primary_by context live begin.Sign = never unexpected
 primary_by context live begin.Range = here (λ at. give (integer (pos 0) at))
-primary_by context live begin.Nothing = never no_operand
+primary_by context live _ = never no_operand
 
 -- A sign and its operand, one level deeper; or a primary with what follows it: a call, links, or none of these. That
 -- its module is known is tested after the last link.

@@ -14,7 +14,7 @@ use Rattle.rhai_grammar.specs.Prelude.{WellNumbered, WellNumberedBlock, WellNumb
 use Rattle.rhai_grammar.specs.Prelude.{define_at, export_at, fresh_slot, is_in_block, later, names_in, names_of, number}
 use Rattle.rhai_grammar.specs.Prelude.{reused, with_alias, with_constant}
 use Rattle.rhai_grammar.proofs.NumberSteps as N
-use Rattle.rhai_grammar.specs.TreeNumbers.{AllLinks, IsCollected}
+use Rattle.rhai_grammar.specs.TreeNumbers.{AllLinks}
 use Rattle.rhai_productions.specs.Numbered.{names, Leaves}
 use Rattle.rhai_grammar.specs.Productions.{name}
 

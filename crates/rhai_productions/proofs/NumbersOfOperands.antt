@@ -24,7 +24,7 @@ use Rattle.rhai_grammar.specs.declared.role.ItemRole.{ItemRole}
 use Rattle.rhai_grammar.specs.declared.role.Linking.{Linking}
 use Rattle.rhai_grammar.specs.declared.role.OperandStart.{OperandStart}
 use Rattle.rhai_grammar.proofs.NumberSteps as N
-use Rattle.rhai_grammar.specs.TreeNumbers.{AllLinks, IsCollected}
+use Rattle.rhai_grammar.specs.TreeNumbers.{AllLinks}
 use Rattle.rhai_grammar.specs.Strengths.{continues}
 use Rattle.rhai_grammar.specs.Productions.{Production}
 use Rattle.rhai_grammar.specs.Rules as P
@@ -104,23 +104,19 @@ primary c w begin.Interpolated n = λ at m room xs o h e. h (one_text (names w) 
 primary c w (begin.Construct kind) n = by_either (PrimaryRight w) (may_be_value c kind) _ _ n
     (λ at m a b f o h e. N.made (names w) f h.0) tt
 primary c w (begin.Closure by) n = by_either (PrimaryRight w) (may_be_closure c by) _ _ n (λ at m x o h e. h) tt
-primary c w begin.Sign n = tt
 primary c w begin.Range n = λ at e. tt
-primary c w begin.Nothing n = tt
+primary c w _ n = tt
 
-pub bang : (c : Context) (w : Live) (at : Position) (v : Calling) (n : Lexeme)
-    → KeepsIn (λ (x : Bool × Nodes). AllWellNumbered (names w) x.1) (P.bang_by c w at v) n
-bang c w at calls_by.Pair n = λ p m. tt
-bang c w at calls_by.List n = λ p m ns o h. h
-bang c w at calls_by.Bang n = tt
-bang c w at calls_by.Nothing n = tt
+pub given : (c : Context) (w : Live) (at : Position) (bang : Bool) (v : Calling) (n : Lexeme)
+    → KeepsIn (λ (x : Bool × Nodes). AllWellNumbered (names w) x.1) (P.arguments_by c w at bang v) n
+given c w at bang calls_by.Pair n = λ p m. tt
+given c w at bang calls_by.List n = λ p m ns o h. h
+given c w at bang _ n = tt
 
 pub called : (c : Context) (w : Live) (at : Position) (q : Bool) (v : Calling) (n : Lexeme)
     → KeepsIn (λ (x : Bool × Nodes). AllWellNumbered (names w) x.1) (P.called_by c w at q v) n
-called c w at q calls_by.Pair n = λ p m. tt
-called c w at q calls_by.List n = λ p m ns o h. h
-called c w at q calls_by.Nothing n = tt
-called c w at q calls_by.Bang n = λ p m v e ok. bang c w at v m
+called c w at q calls_by.Bang n = λ p m v e ok. given c w at true v m
+called c w at q v n = given c w at false v n
 
 -- after its path
 pub call_path : (Q : Type 0) (c : Context) (w : Live) (x : Node) (n : Lexeme) → WellNumbered (names w) x

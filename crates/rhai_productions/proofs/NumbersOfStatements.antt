@@ -24,7 +24,7 @@ use Rattle.rhai_grammar.specs.declared.role.Calling.{Calling}
 use Rattle.rhai_grammar.specs.declared.role.ItemRole.{ItemRole}
 use Rattle.rhai_grammar.specs.declared.role.StatementStart.{StatementStart}
 use Rattle.rhai_grammar.proofs.NumberSteps as N
-use Rattle.rhai_grammar.specs.TreeNumbers.{AllLinks, IsCollected}
+use Rattle.rhai_grammar.specs.TreeNumbers.{IsCollected}
 use Rattle.rhai_grammar.specs.Productions.{Production}
 use Rattle.rhai_grammar.specs.Rules as P
 use Rattle.rhai_grammar.specs.Rules.{production}

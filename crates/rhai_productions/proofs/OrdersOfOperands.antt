@@ -31,7 +31,7 @@ use Rattle.rhai_reading.specs.Reading.{Goal, Val}
 use Rattle.rhai_grammar.specs.Productions.{Production}
 use Rattle.rhai_grammar.specs.Rules as P
 use Rattle.rhai_grammar.specs.Rules.{production}
-use Rattle.rhai_productions.proofs.Ordering.{Orders, Spared, missing_spared, unexpected_spared}
+use Rattle.rhai_productions.proofs.Ordering.{Orders, Spared, missing_spared}
 use Rattle.rhai_productions.proofs.OrderCauses.{fault, no_item, no_operand}
 use Rattle.rhai_grammar.proofs.SparedTokens.{key_spared, member_spared}
 
@@ -162,24 +162,20 @@ module _ (limit : ℕ) where
       (λ n at. (λ e. refl, λ s. (λ e. refl, λ s. (b, o, i, λ x m r o. (tt, o))))) no_operand
   primary c w (begin.Closure by) b l i o = either_of (may_be_closure c by) _ _ b l
       (λ n at. (b, o, i, λ x m r o. (tt, o))) no_operand
-  primary c w begin.Sign b l i o = unexpected_spared
   primary c w begin.Range b l i o = λ at. (tt, o)
-  primary c w begin.Nothing b l i o = no_operand
+  primary c w _ b l i o = no_operand
 
-  pub bang : (c : Context) (w : Live) (name : Position) (v : Calling) (b : ℕ) (l : Library) → Fits limit b c
-      → Kept limit b l → OrdersIn b (P.bang_by c w name v) l
-  bang c w name calls_by.Pair b l i o = λ n at. (tt, o)
-  bang c w name calls_by.List b l i o = λ n at. (b, o, i, λ x m r o. (tt, o))
-  bang c w name calls_by.Bang b l i o = missing_spared _
-  bang c w name calls_by.Nothing b l i o = missing_spared _
+  pub given : (c : Context) (w : Live) (name : Position) (bang : Bool) (v : Calling) (b : ℕ) (l : Library)
+      → Fits limit b c → Kept limit b l → OrdersIn b (P.arguments_by c w name bang v) l
+  given c w name bang calls_by.Pair b l i o = λ n at. (tt, o)
+  given c w name bang calls_by.List b l i o = λ n at. (b, o, i, λ x m r o. (tt, o))
+  given c w name bang _ b l i o = missing_spared _
 
   pub called : (c : Context) (w : Live) (name : Position) (q : Bool) (v : Calling) (b : ℕ) (l : Library)
       → Fits limit b c
       → Kept limit b l → OrdersIn b (P.called_by c w name q v) l
-  called c w name q calls_by.Pair b l i o = λ n at. (tt, o)
-  called c w name q calls_by.List b l i o = λ n at. (b, o, i, λ x m r o. (tt, o))
-  called c w name q calls_by.Nothing b l i o = (tt, o)
-  called c w name q calls_by.Bang b l i o = λ n at v m e. (λ e. refl, λ s. bang c w name v b l i o)
+  called c w name q calls_by.Bang b l i o = λ n at v m e. (λ e. refl, λ s. given c w name true v b l i o)
+  called c w name q v b l i o = given c w name false v b l i o
 
   pub call_of : (c : Context) (w : Live) (x : Node) (b : ℕ) (l : Library) → Fits limit b c → Kept limit b l
       → OrdersIn b (P.call_of c w x) l

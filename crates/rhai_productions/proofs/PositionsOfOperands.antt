@@ -178,22 +178,19 @@ module _ (G : Position → Type 0) where
   primary c w (begin.Construct kind) = by_either (Placed G) (may_be_value c kind) _ _
       (λ n at a. (λ e. a, (λ e. a, (a, λ f h. h)))) tt
   primary c w (begin.Closure by) = by_either (Placed G) (may_be_closure c by) _ _ (λ n at a. (a, λ x h. h)) tt
-  primary c w begin.Sign = tt
   primary c w begin.Range = λ at a. a
-  primary c w begin.Nothing = tt
+  primary c w _ = tt
 
-  pub bang : (c : Context) (w : Live) (name : Position) (v : Calling) → G name → AllowsIn (P.bang_by c w name v)
-  bang c w name calls_by.Pair g = λ n at a. tt
-  bang c w name calls_by.List g = λ n at a. (g, λ ns h. tt)
-  bang c w name calls_by.Bang g = tt
-  bang c w name calls_by.Nothing g = tt
+  pub given : (c : Context) (w : Live) (name : Position) (bang : Bool) (v : Calling) → G name
+      → AllowsIn (P.arguments_by c w name bang v)
+  given c w name bang calls_by.Pair g = λ n at a. tt
+  given c w name bang calls_by.List g = λ n at a. (g, λ ns h. tt)
+  given c w name bang _ g = tt
 
   pub called : (c : Context) (w : Live) (name : Position) (q : Bool) (v : Calling) → G name
       → AllowsIn (P.called_by c w name q v)
-  called c w name q calls_by.Pair g = λ n at a. tt
-  called c w name q calls_by.List g = λ n at a. (g, λ ns h. tt)
-  called c w name q calls_by.Nothing g = tt
-  called c w name q calls_by.Bang g = λ n at a v. (λ e. a, bang c w name v g)
+  called c w name q calls_by.Bang g = λ n at a v. (λ e. a, given c w name true v g)
+  called c w name q v g = given c w name false v g
 
   pub call_of : (c : Context) (w : Live) (x : Node) → Placed G x → AllowsAs (Placed G) (P.call_of c w x)
   call_of c w x h = (

@@ -88,25 +88,22 @@ same_field c w opening before (Some key) = λ i. R.raised c opening (λ d. Call 
     same_parted lists.Map (S.part (R.Fields c w opening (with_property before key.0 key.1 x)) give)
     (give (with_property before key.0 key.1 x)) m p (after_part lists.Map m) i)))
 
-pub same_bang : (c : Context) (w : Live) (name : Position) (l : Lexeme) (at : Position) (v : Calling)
-    → run_from (P.bang_by c w name v) (Some (l, at)) ≡ R.bang_at c w name l at v
-same_bang c w name l at calls_by.Pair = refl
-same_bang c w name l at calls_by.List = refl
-same_bang c w name l at calls_by.Bang = refl
-same_bang c w name l at calls_by.Nothing = refl
+pub same_given : (c : Context) (w : Live) (name : Position) (bang : Bool) (l : Lexeme) (at : Position) (v : Calling)
+    → run_from (P.arguments_by c w name bang v) (Some (l, at)) ≡ R.given_at c w name bang l at v
+same_given c w name bang l at calls_by.Pair = refl
+same_given c w name bang l at calls_by.List = refl
+same_given c w name bang l at _ = refl
 
 pub same_called : (c : Context) (w : Live) (name : Position) (q : Bool) (l : Lexeme) (at : Position) (v : Calling)
-    → run_from (P.called_by c w name q v) (Some (l, at)) ≡ R.called_at c w name q at v
-same_called c w name q l at calls_by.Pair = refl
-same_called c w name q l at calls_by.List = refl
-same_called c w name q l at calls_by.Nothing = refl
+    → run_from (P.called_by c w name q v) (Some (l, at)) ≡ R.called_at c w name q l at v
 same_called c w name q l at calls_by.Bang = λ i. Take (Peek (λ m p. qualified_or q m p i))
   where
     qualified_or : (q : Bool) (m : Lexeme) (p : Position)
-        → run_from (unless q (P.bang_fault (is_list (calling m)) at) (P.bang_by c w name (calling m))) (Some (m, p))
-        ≡ R.unless_qualified q at m (R.bang_at c w name m p (calling m))
+        → run_from (unless q (P.bang_fault (is_list (calling m)) at) (P.arguments_by c w name true (calling m)))
+        (Some (m, p)) ≡ R.unless_qualified q at m (R.given_at c w name true m p (calling m))
     qualified_or true m p = refl
-    qualified_or false m p = same_bang c w name m p (calling m)
+    qualified_or false m p = same_given c w name true m p (calling m)
+same_called c w name q l at v = same_given c w name false l at v
 
 pub same_call_of : (c : Context) (w : Live) (x : Node) (l : Lexeme) (at : Position)
     → run_from (P.call_of c w x) (Some (l, at)) ≡ R.call_at c w x l
@@ -173,9 +170,8 @@ same_primary c w l at begin.Map = refl
 same_primary c w l at begin.Interpolated = refl
 same_primary c w l at (begin.Construct kind) = by_cases (may_be_value c kind) _ _ _
 same_primary c w l at (begin.Closure by) = by_cases (may_be_closure c by) _ _ _
-same_primary c w l at begin.Sign = refl
 same_primary c w l at begin.Range = refl
-same_primary c w l at begin.Nothing = refl
+same_primary c w l at _ = refl
 
 pub same_segments : (c : Context) (w : Live) (start : Position) (before : Nodes) → run (P.segments_of c w start before)
     ≡ body (R.Segments c w start before)

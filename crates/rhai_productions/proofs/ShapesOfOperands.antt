@@ -84,26 +84,22 @@ primary c n w begin.Interpolated = λ l at pos. (
 primary c n w (begin.Construct kind) = like_if OnNodes (may_be_value c kind) _ _ _ _ (λ l at pos.
     (constructs, λ f g e. value_so f g e)) tt
 primary c n w (begin.Closure by) = like_if OnNodes (may_be_closure c by) _ _ _ _ (λ l at pos. (closures, λ x y e. e)) tt
-primary c n w begin.Sign = tt
 primary c n w begin.Range = λ at pos. refl
-primary c n w begin.Nothing = tt
+primary c n w _ = tt
 
 abbrev pub OnCalls : Bool × Nodes → Bool × Nodes → Type 0
 OnCalls x y = (x.0 ≡ y.0) × (nodes_shape x.1 ≡ nodes_shape y.1)
 
-pub bang : (c : Context) (n : ℕ) (w : Live) (at pos : Position) (v : Calling) → LikeIn OnCalls (P.bang_by c w at v)
-    (P.bang_by (at_level n c) w pos v)
-bang c n w at pos calls_by.Pair = λ l p q. (refl, refl)
-bang c n w at pos calls_by.List = λ l p q. (argument_lists, λ a b e. (refl, e))
-bang c n w at pos calls_by.Bang = tt
-bang c n w at pos calls_by.Nothing = tt
+pub given : (c : Context) (n : ℕ) (w : Live) (at pos : Position) (bang : Bool) (v : Calling)
+    → LikeIn OnCalls (P.arguments_by c w at bang v) (P.arguments_by (at_level n c) w pos bang v)
+given c n w at pos bang calls_by.Pair = λ l p q. (refl, refl)
+given c n w at pos bang calls_by.List = λ l p q. (argument_lists, λ a b e. (refl, e))
+given c n w at pos bang _ = tt
 
 pub called : (c : Context) (n : ℕ) (w : Live) (at pos : Position) (i j : Bool) (v : Calling) → LikeIn OnCalls
     (P.called_by c w at i v) (P.called_by (at_level n c) w pos j v)
-called c n w at pos i j calls_by.Pair = λ l p q. (refl, refl)
-called c n w at pos i j calls_by.List = λ l p q. (argument_lists, λ a b e. (refl, e))
-called c n w at pos i j calls_by.Nothing = (refl, refl)
-called c n w at pos i j calls_by.Bang = λ l p q m. bang c n w at pos (calling m)
+called c n w at pos i j calls_by.Bang = λ l p q m. given c n w at pos true (calling m)
+called c n w at pos i j v = given c n w at pos false v
 
 pub call_like : (c : Context) (n : ℕ) (w : Live) (x y : Node) → node_shape x ≡ node_shape y → LikeIn OnNodes
     (P.call_of c w x) (P.call_of (at_level n c) w y)

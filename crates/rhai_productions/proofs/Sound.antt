@@ -2,7 +2,7 @@
 use Rattle.std.proofs.Common.{◌≡◌, ℕ, zero, suc, Bool, true, false, Option, Some, None, List, refl, ap, ◌∙◌, sym, subst}
 use Rattle.std.proofs.Common.{if◌then◌else◌}
 use Rattle.rhai_lower.specs.declared.token.Token.TheVariants as token
-use Rattle.rhai_grammar.specs.Prelude.{Mode, Lexeme, Sign, Position, Cause, Refusal, refusal, Item, item, code, text}
+use Rattle.rhai_grammar.specs.Prelude.{Lexeme, Sign, Position, Cause, Refusal, refusal, Item, item, code, text}
 use Rattle.rhai_grammar.specs.Prelude.{Use, Ended, Library, Fine, Wrong, Blames, Otherwise, Demands, Nothing, is_memory}
 use Rattle.rhai_grammar.specs.Prelude.{is_at_last, Point, past, next_at, adding, capturing, with_captured, apart}
 use Rattle.rhai_grammar.specs.Prelude.{closure_count, is_due, not_due, unexpected, StandsAtLast, as_literal}

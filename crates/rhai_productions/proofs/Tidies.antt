@@ -72,21 +72,17 @@ primary c w begin.Map = λ l at. (refl, λ ps. tt)
 primary c w begin.Interpolated = λ l at. (refl, λ ns. tt)
 primary c w (begin.Construct kind) = by_either (may_be_value c kind) _ _ (λ l at. (refl, (refl, λ f. tt))) tt
 primary c w (begin.Closure by) = by_either (may_be_closure c by) _ _ (λ l at x. tt) tt
-primary c w begin.Sign = tt
 primary c w begin.Range = λ at. tt
-primary c w begin.Nothing = tt
+primary c w _ = tt
 
-bang : (c : Context) (w : Live) (name : Position) (v : Calling) → Tidy (P.bang_by c w name v)
-bang c w name calls_by.Pair = λ l at. tt
-bang c w name calls_by.List = λ l at ns. tt
-bang c w name calls_by.Bang = tt
-bang c w name calls_by.Nothing = tt
+given : (c : Context) (w : Live) (name : Position) (bang : Bool) (v : Calling) → Tidy (P.arguments_by c w name bang v)
+given c w name bang calls_by.Pair = λ l at. tt
+given c w name bang calls_by.List = λ l at ns. tt
+given c w name bang _ = tt
 
 called : (c : Context) (w : Live) (name : Position) (q : Bool) (v : Calling) → Tidy (P.called_by c w name q v)
-called c w name q calls_by.Pair = λ l at. tt
-called c w name q calls_by.List = λ l at ns. tt
-called c w name q calls_by.Nothing = tt
-called c w name q calls_by.Bang = λ l at v. (bang_early (is_list v) at, bang c w name v)
+called c w name q calls_by.Bang = λ l at v. (bang_early (is_list v) at, given c w name true v)
+called c w name q v = given c w name false v
 
 call_of : (c : Context) (w : Live) (x : Node) → Tidy (P.call_of c w x)
 call_of c w x = (λ call. (no_fault (module_fault c w x) (module_early c w x), tt), tt)

@@ -219,27 +219,23 @@ primary c w (begin.Construct kind) n = by_either (R.Primary c w) PrimaryRight (m
     (λ at m a b f o us h e. valued f h) tt
 primary c w (begin.Closure by) n = by_either (R.Primary c w) PrimaryRight (may_be_closure c by) _ _ n [] []
     (λ at m x o us h e. h) tt
-primary c w begin.Sign n = tt
 primary c w begin.Range n = λ at e. none
-primary c w begin.Nothing n = tt
+primary c w _ n = tt
 
 -- ---- calls and chains
 
-pub bang : (c : Context) (w : Live) (at : Position) (q : Bool) (v : Calling) (n : Lexeme)
-    → KeepsIn (R.Called c w at q) (λ x us. Only (all_mentions x.1) us) (P.bang_by c w at v) n [] []
+pub given : (c : Context) (w : Live) (at : Position) (q bang : Bool) (v : Calling) (n : Lexeme)
+    → KeepsIn (R.Called c w at q) (λ x us. Only (all_mentions x.1) us) (P.arguments_by c w at bang v) n [] []
 unfolding mentions
-bang c w at q calls_by.Pair n = λ p m. none
-bang c w at q calls_by.List n = λ p m ns o us h. h
-bang c w at q calls_by.Bang n = tt
-bang c w at q calls_by.Nothing n = tt
+given c w at q bang calls_by.Pair n = λ p m. none
+given c w at q bang calls_by.List n = λ p m ns o us h. h
+given c w at q bang _ n = tt
 
 pub called : (c : Context) (w : Live) (at : Position) (q : Bool) (v : Calling) (n : Lexeme)
     → KeepsIn (R.Called c w at q) (λ x us. Only (all_mentions x.1) us) (P.called_by c w at q v) n [] []
 unfolding mentions
-called c w at q calls_by.Pair n = λ p m. none
-called c w at q calls_by.List n = λ p m ns o us h. h
-called c w at q calls_by.Nothing n = none
-called c w at q calls_by.Bang n = λ p m v e ok. bang c w at q v m
+called c w at q calls_by.Bang n = λ p m v e ok. given c w at q true v m
+called c w at q v n = given c w at q false v n
 
 -- what a call of a name mentions
 call_read : {us : List Text} (x : Node) (b : Bool) (ns : Nodes) → Only (all_mentions ns) us

@@ -85,17 +85,15 @@ module _ (within may : Bool) (slots : List SlotValue) where
   right c w first.Jump o = (below c o, λ f. tt)
   right c w first.Written o = (o, λ x. tt)
 
-  bang : (c : Context) (w : Live) (name : Position) (v : Calling) → On c → Fits (P.bang_by c w name v)
-  bang c w name calls_by.Pair o = λ l at. tt
-  bang c w name calls_by.List o = λ l at. (o, λ ns. tt)
-  bang c w name calls_by.Bang o = tt
-  bang c w name calls_by.Nothing o = tt
+  given : (c : Context) (w : Live) (name : Position) (bang : Bool) (v : Calling) → On c
+      → Fits (P.arguments_by c w name bang v)
+  given c w name bang calls_by.Pair o = λ l at. tt
+  given c w name bang calls_by.List o = λ l at. (o, λ ns. tt)
+  given c w name bang _ o = tt
 
   called : (c : Context) (w : Live) (name : Position) (q : Bool) (v : Calling) → On c → Fits (P.called_by c w name q v)
-  called c w name q calls_by.Pair o = λ l at. tt
-  called c w name q calls_by.List o = λ l at. (o, λ ns. tt)
-  called c w name q calls_by.Nothing o = tt
-  called c w name q calls_by.Bang o = λ l at v. bang c w name v o
+  called c w name q calls_by.Bang o = λ l at v. given c w name true v o
+  called c w name q v o = given c w name false v o
 
   dotted : (w : Live) (spot : LinkSpot) (l : Lexeme) (at : Position) (v : MemberRole) → On spot.settings
       → Fits (P.dotted_by w spot l at v)
@@ -241,9 +239,8 @@ module _ (within may : Bool) (slots : List SlotValue) where
   primary c w begin.Interpolated i e o = λ l at. (o, λ ns. tt)
   primary c w (begin.Construct kind) i e o = by_either (may_be_value c kind) _ _ (λ l at. (o, λ f. tt)) tt
   primary c w (begin.Closure by) i e o = by_either (may_be_closure c by) _ _ (λ l at. (o, λ x. tt)) tt
-  primary c w begin.Sign i e o = tt
   primary c w begin.Range i e o = λ at. tt
-  primary c w begin.Nothing i e o = tt
+  primary c w _ i e o = tt
 
   captured : {A : Type 0} (us : List Use) (c : Context) (w : Live) (p : Production A) → may ≡ true → slots ≡ w.slots
       → On c → Fits p → Fits (P.captured us c w p)

@@ -13,7 +13,7 @@ use Rattle.rhai_grammar.specs.declared.role.Calling.TheVariants as calls_by
 use Rattle.rhai_grammar.specs.Signs.{sign_result}
 use Rattle.rhai_grammar.specs.Operators.{operator_result}
 use Rattle.rhai_reading.specs.Reading.{Prog, Ret, Fail, Take, Call, Primary, Postfix, Links, Operand, BinaryOp, sign_on}
-use Rattle.rhai_reading.specs.Reading.{operand_by, bang_at, binary_next, raised, tested}
+use Rattle.rhai_reading.specs.Reading.{operand_by, given_at, binary_next, raised, tested}
 use Rattle.rhai_reading.specs.Running as R
 
 -- ---- an operation's answer
@@ -56,10 +56,11 @@ sign_outcome call l at n t = ap (λ q. exec call q t) (sign_chosen (sign_holds l
 
 -- ---- calls
 
-pub bang_refused : (c : Context) (w : Live) (name : Position) (l : Lexeme) (at : Position) (k : Calling) → is_list k ≡ false → bang_at c w name l at k ≡ Fail (refusal (missing (codes "(") l) at)
-bang_refused c w name l at calls_by.Pair e = absurd cc
-bang_refused c w name l at calls_by.List e = absurd cc
-bang_refused c w name l at _ e = refl
+pub none_given : (c : Context) (w : Live) (name : Position) (bang : Bool) (l : Lexeme) (at : Position) (k : Calling)
+    → is_list k ≡ false → given_at c w name bang l at k ≡ Fail (refusal (missing (codes "(") l) at)
+none_given c w name bang l at calls_by.Pair e = absurd cc
+none_given c w name bang l at calls_by.List e = absurd cc
+none_given c w name bang l at _ e = refl
 
 -- ---- operators
 

@@ -5,7 +5,6 @@ use Rattle.rhai_grammar.specs.Prelude.{unexpected, is_due, not_due, is_text, cod
 use Rattle.rhai_grammar.specs.Prelude.{past, is_memory, Verdict, Fine}
 use Rattle.rhai_grammar.specs.Prelude.{Wrong, Otherwise, Demands, ◌▸◌, Next}
 use Rattle.rhai_grammar.specs.Prelude.{verdict, Ended, Library, adding, apart, capturing, with_captured, Use}
-use Rattle.rhai_grammar.specs.Causes as cause
 use Rattle.rhai_grammar.specs.declared.due.DueToken.TheVariants.{RightBrace}
 use Rattle.rhai_grammar.specs.Demands as D
 use Rattle.rhai_reading.specs.Reading.{Know, Add, Note, CallApart, Goal, Val, Prog, Ret, Peek, Take, TakeText}

@@ -108,9 +108,8 @@ primary_at context live lexeme at (begin.Construct kind) =
 primary_at context live lexeme at (begin.Closure by) =
     if may_be_closure context by then Take (Call (Closure context live at by) Ret)
     else Fail (refusal (no_operand lexeme) at)
-primary_at context live lexeme at begin.Sign = Fail (refusal (unexpected lexeme) at)
 primary_at context live lexeme at begin.Range = Ret (integer (lib.IntN.pos 0) at)
-primary_at context live lexeme at begin.Nothing = Fail (refusal (no_operand lexeme) at)
+primary_at context live lexeme at _ = Fail (refusal (no_operand lexeme) at)
 
 -- after the `{` of a block in an interpolated string: the block, and the text after it
 abbrev pub text_on : Context → Live → (start opening : Position) → Nodes → node.Statements
@@ -150,15 +149,11 @@ right_at context live at first.Written = Call (Operand context live) Ret
 
 -- ---- calls
 
--- after the `(` of a call
-abbrev pub list_on : Context → Live → Position → (bang : Bool) → Prog (Bool × Nodes)
-list_on context live name bang = Take (Call (Arguments context live name) (λ ns. Ret (bang, ns)))
-
--- after the `!` of a call
-abbrev pub bang_at : Context → Live → Position → Lexeme → Position → Calling → Prog (Bool × Nodes)
-bang_at context live name lexeme at calls_by.Pair = Take (Ret (true, no_nodes))
-bang_at context live name lexeme at calls_by.List = list_on context live name true
-bang_at context live name lexeme at _ = Fail (refusal (missing (codes "(") lexeme) at)
+-- the arguments of a call, which has a `!` or not
+abbrev pub given_at : Context → Live → Position → (bang : Bool) → Lexeme → Position → Calling → Prog (Bool × Nodes)
+given_at context live name bang lexeme at calls_by.Pair = Take (Ret (bang, no_nodes))
+given_at context live name bang lexeme at calls_by.List = Take (Call (Arguments context live name) (λ ns. Ret (bang, ns)))
+given_at context live name bang lexeme at _ = Fail (refusal (missing (codes "(") lexeme) at)
 
 -- after the `!` of a call, which is at a position, and which may not follow a name with a path
 abbrev pub unless_qualified : (qualified : Bool) → Position → Lexeme → Prog (Bool × Nodes)
@@ -166,14 +161,12 @@ abbrev pub unless_qualified : (qualified : Bool) → Position → Lexeme → Pro
 unless_qualified qualified bang lexeme rest =
     if qualified then Fail (bang_fault (is_list (calling lexeme)) bang) else rest
 
-abbrev pub called_at : Context → Live → Position → (qualified : Bool) → Position → Calling
+abbrev pub called_at : Context → Live → Position → (qualified : Bool) → Lexeme → Position → Calling
     → Prog (Bool × Nodes)
-called_at context live name qualified at calls_by.Pair = Take (Ret (false, no_nodes))
-called_at context live name qualified at calls_by.List = list_on context live name false
-called_at context live name qualified at calls_by.Bang =
+called_at context live name qualified lexeme at calls_by.Bang =
     Take (Peek (λ following pos.
-    unless_qualified qualified at following (bang_at context live name following pos (calling following))))
-called_at context live name qualified at calls_by.Nothing = Ret (false, no_nodes)
+    unless_qualified qualified at following (given_at context live name true following pos (calling following))))
+called_at context live name qualified lexeme at v = given_at context live name false lexeme at v
 
 -- after an operand, which may have a path
 abbrev pub call_on : Context → Live → Node → (called : Bool) → Prog Node
@@ -321,7 +314,7 @@ body (Operand context live) = Peek (λ lexeme at. operand_by context live lexeme
 body (RightOperand context live place) = Peek (λ lexeme at. right_at context live at (operand_start place lexeme))
 body (Primary context live) = Peek (λ lexeme at. primary_at context live lexeme at (beginning lexeme))
 body (Called context live name qualified) =
-    Peek (λ lexeme at. called_at context live name qualified at (calling lexeme))
+    Peek (λ lexeme at. called_at context live name qualified lexeme at (calling lexeme))
 body (Path live x) =
     Peek (λ lexeme at. Take (match_name (λ name pos. path_on live (qualified live.imports x name pos))))
 body (Links live spot) = Peek (λ lexeme at. links_at live spot lexeme at (linking lexeme))
