@@ -3,8 +3,8 @@
 
 import pathlib
 
-EDITS = pathlib.Path(__file__).resolve().parent
-ROOT = EDITS.parent.parent
+ROOT = pathlib.Path(__file__).resolve().parent.parent.parent
+EDITS = ROOT / "tests/edits"
 CRATES = ROOT / "crates"
 
 

@@ -1,7 +1,7 @@
 #!/usr/bin/env python3
 """Counts the definitions that a reader has to believe: those that contracts of public calls rest on.
 
-usage: tests/cited.py [--names] [CRATE FUNCTION ..]
+usage: tools/cited.py [--names] [CRATE FUNCTION ..]
 
 For each file of specs/ it prints how many lines its definitions have that the contracts of these functions cite,
 directly or through other definitions; the last line has the sum. Counted are a definition and the comment above it, not

@@ -1,7 +1,7 @@
 #!/usr/bin/env python3
 """Prints two tables of what a token costs, in scripts of one kind each. It is no part of the gate.
 
-usage: tests/speed.py [PROGRAM [OTHER CALL]]
+usage: tools/speed.py [PROGRAM [OTHER CALL]]
 
 The first table has the instructions a token that the reader of a script's statements takes, which is almost all of the
 parse call, in a list of 10,000 tokens, which is accepted. valgrind's callgrind counts them, the same on every run. With

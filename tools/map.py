@@ -1,7 +1,7 @@
 #!/usr/bin/env python3
 """Writes docs/MAP.md, the map of files, or finds files by words.
 
-usage: tests/map.py [--check | WORD ..]
+usage: tools/map.py [--check | WORD ..]
 
 The first sentence of each file's head comment says what the file holds. The map has the definitions of the language,
 with their sentences; a family of definitions has one line.
@@ -28,11 +28,11 @@ DOCUMENT = ROOT / "docs/MAP.md"
 HEAD = """\
 # Map of files
 
-Every file begins with a comment that says what it holds. `tests/map.py WORD ..` prints the files that have these words
-in their path or in that comment: `tests/map.py slot` finds what has to do with slots, `tests/map.py rhai_base/src` the
+Every file begins with a comment that says what it holds. `tools/map.py WORD ..` prints the files that have these words
+in their path or in that comment: `tools/map.py slot` finds what has to do with slots, `tools/map.py rhai_base/src` the
 code of a crate. [ARCHITECTURE.md](ARCHITECTURE.md) has the crates, and says where to put what.
 
-Here are only the definitions of the language, in `crates/rhai_grammar/specs`. `tests/map.py` writes this list from the
+Here are only the definitions of the language, in `crates/rhai_grammar/specs`. `tools/map.py` writes this list from the
 comments of the files. Change those, not this file."""
 COLUMNS = 120
 
@@ -161,7 +161,7 @@ def main(words):
         DOCUMENT.write_text("\n".join(new) + "\n", encoding="utf-8")
     elif new != old:
         name = str(DOCUMENT.relative_to(ROOT))
-        print("\n".join(difflib.unified_diff(old, new, name, "what tests/map.py would write", n=0, lineterm="")))
+        print("\n".join(difflib.unified_diff(old, new, name, "what tools/map.py would write", n=0, lineterm="")))
     print("".join(f"{fault}\n" for fault in faults), end="")
     return 1 if faults or (words and new != old) else 0
 

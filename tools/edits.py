@@ -1,8 +1,8 @@
 #!/usr/bin/env python3
 """Tries the wrong bodies of tests/edits. The prover has to refuse each; then the commit is kept.
 
-usage: tests/edits.py [--together] [CRATE|EDIT ..]
-       tests/edits.py --old|--check
+usage: tools/edits.py [--together] [CRATE|EDIT ..]
+       tools/edits.py --old|--check
 
 An EDIT is a file, as tests/edits/rhai_base/nest_peak_is_always_0.edit. Without names all are tried, in a copy of the
 crates that the edit needs. Run `rt all check` before: the copy then has what that proved, so most edits take a minute.
