@@ -1,7 +1,7 @@
 -- The next operator, and settings that differ in position alone. This is what the reading program does where the code
 -- asks a function outside of the readers.
 use Rattle.std.proofs.Common.{Option, Some, None, option_map, ◌≡◌, Bool, false, Result, Ok, Err, IfErr, IfOk, OnOk, refl, sym, ap, ◌∙◌, if◌then◌else◌}
-use Rattle.rhai_lower.specs.Lexemes.{text_of}
+use Rattle.rhai_lower.specs.Lexemes.{Lexeme, text_of}
 use Rattle.rhai_lower.specs.declared.position.Position.{Position}
 use Rattle.rhai_grammar.specs.Causes.{MemoryIsNowhere, UnknownOperator, is_for_memory, out_of_memory, refusal, refusal_of}
 use Rattle.rhai_grammar.specs.declared.error.ParseError.{ParseError}
@@ -10,7 +10,8 @@ use Rattle.rhai_grammar.specs.Strengths.{Unknown, follower_of}
 use Rattle.rhai_grammar.specs.Contexts.{Context}
 use Rattle.rhai_grammar.specs.declared.filter.ExprFilter.{ExprFilter}
 use Rattle.rhai_grammar.specs.Settings.{Settings}
-use Rattle.rhai_reading.specs.Reading.{Called, Ret, next_operator_at, NextOperator}
+use Rattle.rhai_grammar.specs.Rules.{follower_by}
+use Rattle.rhai_reading.specs.Reading.{Called, NextOperator, Ret, run_from}
 use Rattle.rhai_reading.specs.Running as R
 use Rattle.rhai_reading.specs.Running.{Gives, Progress, next_item, exec, guarded, after_peek, nested, result_of}
 use Rattle.rhai_reading.proofs.Steps.{step_next_operator}
@@ -26,19 +27,20 @@ use Rattle.rhai_readers.specs.Readers.{called}
 
 -- ---- operators
 
-found_given : (at : Position) (o : Option Operator) → next_operator_at at (operator_found o) ≡ Ret (option_map operator_pair o)
-found_given at None = refl
-found_given at (Some o) = refl
+found_given : (l : Lexeme) (at : Position) (o : Option Operator) → run_from (follower_by (operator_found o)) (Some (l, at)) ≡ Ret (option_map operator_pair o)
+found_given l at None = refl
+found_given l at (Some o) = refl
 
 -- the operator that the code finds
 next_done : (f : ExprFilter) (s t : Progress) (o : Option Operator) → is_memory (next_item s).lexeme ≡ false → follower_of f (next_item s).lexeme ≡ operator_found o → t ≡ after_peek s → result_of (NextOperator f) s ≡ R.Done (option_map operator_pair o) t
 next_done f s t o readable is look =
     let call = guarded (NextOperator f) s in
+    let l = (next_item s).lexeme in
     let at = (next_item s).at in
     step_next_operator f s
-    ∙ ap (λ m. if m then R.Refused out_of_memory (after_peek s) else exec call (next_operator_at at (follower_of f (next_item s).lexeme)) (after_peek s)) readable
-    ∙ ap (λ b. exec call (next_operator_at at b) (after_peek s)) is
-    ∙ ap (λ p. exec call p (after_peek s)) (found_given at o)
+    ∙ ap (λ m. if m then R.Refused out_of_memory (after_peek s) else exec call (run_from (follower_by (follower_of f l)) (Some (l, at))) (after_peek s)) readable
+    ∙ ap (λ b. exec call (run_from (follower_by b) (Some (l, at))) (after_peek s)) is
+    ∙ ap (λ p. exec call p (after_peek s)) (found_given l at o)
     ∙ ap (R.Done (option_map operator_pair o)) (sym look)
 
 -- what the code answers where it looks for an operator, as the reading program gives it
@@ -47,11 +49,12 @@ next_given f s t (Ok o) found refused nowhere look readable = next_done f s t o 
 next_given f s t (Err e) found refused nowhere look readable = (
   λ told. (
       let call = guarded (NextOperator f) s in
+      let l = (next_item s).lexeme in
       let at = (next_item s).at in
       let h = refused told in
       step_next_operator f s
-      ∙ ap (λ m. if m then R.Refused out_of_memory (after_peek s) else exec call (next_operator_at at (follower_of f (next_item s).lexeme)) (after_peek s)) h.1
-      ∙ ap (λ b. exec call (next_operator_at at b) (after_peek s)) h.0
+      ∙ ap (λ m. if m then R.Refused out_of_memory (after_peek s) else exec call (run_from (follower_by (follower_of f l)) (Some (l, at))) (after_peek s)) h.1
+      ∙ ap (λ b. exec call (run_from (follower_by b) (Some (l, at))) (after_peek s)) h.0
       ∙ ap (λ d. R.Refused d (after_peek s)) (sym h.2)
       ∙ ap (R.Refused (refusal_of e)) (sym look)),
   nowhere,

@@ -1,6 +1,7 @@
 -- Reserved words, and names with their uses. This is what the reading program does where the code asks a function
 -- outside of the readers.
-use Rattle.std.proofs.Common.{◌≡◌, Bool, List, None, Result, true, false, ◌&&◌, Ok, Err, refl, sym, ap, ◌∙◌, if◌then◌else◌}
+use Rattle.std.proofs.Common.{◌≡◌, Bool, List, None, Option, Some, Result, true, false, ◌&&◌, Ok, Err, refl, sym, ap}
+use Rattle.std.proofs.Common.{◌∙◌, if◌then◌else◌}
 use Rattle.rhai_lower.specs.Texts.{Text}
 use Rattle.rhai_lower.specs.Lexemes.{Lexeme}
 use Rattle.rhai_lower.specs.Nodes.{Node, this}
@@ -17,7 +18,9 @@ use Rattle.rhai_trees.proofs.LinkedLemmas.{given_where, this_value, variable_val
 use Rattle.rhai_trees.specs.Linked.{is_linked}
 use Rattle.rhai_grammar.specs.declared.role.Beginning.TheVariants as begin
 use Rattle.rhai_grammar.specs.Uses.{Use, noted}
-use Rattle.rhai_reading.specs.Reading.{Ret, Fail, Know, Note, Primary, name_at, word_at}
+use Rattle.rhai_grammar.specs.Productions.{give, must, stop}
+use Rattle.rhai_grammar.specs.Rules.{name_of, word_of}
+use Rattle.rhai_reading.specs.Reading.{Ret, Fail, Note, Primary, run_from}
 use Rattle.rhai_reading.specs.Running as R
 use Rattle.rhai_reading.specs.Running.{Caller, Progress, next_item, exec, guarded, result_of, with_captured}
 use Rattle.rhai_base.specs.Words.{name_result, no_this, word_result}
@@ -37,24 +40,24 @@ value_unsigned _ e = absurd cc
 -- ---- reserved words
 
 -- a choice between answers, as a program
-word_chosen : (b c d : Bool) (x y : Node) (e f : Refusal) → (if b then Ret x else if c then (if d then Ret y else Fail e) else Fail f) ≡ answered (if b then Ok x else if c then (if d then Ok y else Err e) else Err f)
-word_chosen true c d x y e f = refl
-word_chosen false true true x y e f = refl
-word_chosen false true false x y e f = refl
-word_chosen false false d x y e f = refl
+word_chosen : (b c d : Bool) (x y : Node) (e f : Refusal) (s : Option (Lexeme × Position)) → (if b then Ret x else run_from (if c then must d e (give y) else stop f) s) ≡ answered (if b then Ok x else if c then (if d then Ok y else Err e) else Err f)
+word_chosen true c d x y e f s = refl
+word_chosen false true true x y e f s = refl
+word_chosen false true false x y e f s = refl
+word_chosen false false d x y e f s = refl
 
-word_answers : (c : Context) (word : Text) (at : Position) (l : Lexeme) (p : Position) → word_at c word at l p ≡ answered (word_result c.settings word (calls l) at)
+word_answers : (c : Context) (word : Text) (at : Position) (l : Lexeme) (p : Position) → run_from (word_of c word at) (Some (l, p)) ≡ answered (word_result c.settings word (calls l) at)
 word_answers c word at l p =
-    word_chosen (may_be_called word && calls l) (is_this word) (is_in_function c.settings) _ _ _ _
+    word_chosen (may_be_called word && calls l) (is_this word) (is_in_function c.settings) _ _ _ _ (Some (l, p))
 
-pub word_outcome : (call : Caller) (c : Context) (word : Text) (at : Position) (l : Lexeme) (p : Position) (t : Progress) → exec call (word_at c word at l p) t ≡ outcome (word_result c.settings word (calls l) at) t
+pub word_outcome : (call : Caller) (c : Context) (word : Text) (at : Position) (l : Lexeme) (p : Position) (t : Progress) → exec call (run_from (word_of c word at) (Some (l, p))) t ≡ outcome (word_result c.settings word (calls l) at) t
 word_outcome call c word at l p t = ap (λ q. exec call q t) (word_answers c word at l p) ∙ exec_answered call (word_result c.settings word (calls l) at) t
 
 pub worded_outcome : (c : Context) (w : Live) {word : Text} {at : Position} {called : Bool} {s s1 s2 t : Progress}
     → Worded begin.Word calls word at called s s1 s2 t
     → result_of (Primary c w) s ≡ outcome (word_result c.settings word called at) t
 worded_outcome c w {word} {at} {called} {s} {s1} {s2} {t} h =
-    worded c w (word_at c) (λ l p. refl) h
+    worded c w (λ x p l q. run_from (word_of c x p) (Some (l, q))) (λ l p. refl) h
     ∙ word_outcome (guarded (Primary c w) s) c word at (next_item s2).lexeme (next_item s2).at t
     ∙ ap (λ b. outcome (word_result c.settings word b at) t) (sym h.is_so)
 
@@ -101,5 +104,5 @@ word_value c word called at z is = by_choice (may_be_called word && called) (is_
 -- what follows the look after a name
 pub named : (c : Context) (w : Live) {name : Text} {at : Position} {excluded : Bool} {s s1 s2 t : Progress}
     → Worded begin.Name excludes_use name at excluded s s1 s2 t
-    → result_of (Primary c w) s ≡ exec (guarded (Primary c w) s) (name_at c w name at (next_item s2).lexeme t.library) t
-named c w h = worded c w (λ x p l q. Know (name_at c w x p l)) (λ l p. refl) h
+    → result_of (Primary c w) s ≡ exec (guarded (Primary c w) s) (run_from (name_of c w name at) (Some ((next_item s2).lexeme, (next_item s2).at))) t
+named c w h = worded c w (λ x p l q. run_from (name_of c w x p) (Some (l, q))) (λ l p. refl) h

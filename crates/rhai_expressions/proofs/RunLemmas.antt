@@ -15,7 +15,9 @@ use Rattle.rhai_base.specs.Frames.{FrameValue}
 use Rattle.rhai_base.specs.Settings.{levels_left, settings_of}
 use Rattle.rhai_leaves.specs.declared.operators.Operator.{Operator}
 use Rattle.rhai_base.specs.declared.settings.ParseSettings.{ParseSettings}
-use Rattle.rhai_reading.specs.Reading.{BinaryOp, Call, Fail, NextOperator, Peek, Prog, Ret, RightOperand, binary_next, binary_on, binary_right, raised}
+use Rattle.rhai_grammar.specs.Productions.{Production, give, part, raise}
+use Rattle.rhai_grammar.specs.Rules.{binary_next, binary_on, binary_right}
+use Rattle.rhai_reading.specs.Reading.{BinaryOp, Fail, NextOperator, Prog, RightOperand, run}
 use Rattle.rhai_reading.specs.Running as R
 use Rattle.rhai_reading.specs.Running.{Caller, Progress, next_item, exec, guarded, after_peek, nested, result_of, after_take}
 use Rattle.rhai_reading.proofs.Outcomes.{binary_done, binary_refused}
@@ -47,23 +49,25 @@ where_room call false p q e t k h = refl
 -- what follows an operator and the operand after it: the run that this operand begins, and the run around
 abbrev behind_side : Caller → Context → Live → (parent : ℕ) (lhs : Node) (strength : ℕ) → Lexeme × Position × Node → Progress → R.Out Node
 behind_side call c w parent lhs n side t =
-    R.and_then (call (BinaryOp (level_up c) w (position_of side.2) n side.2) t) (λ v u. exec call (binary_next (level_up c) w parent lhs side.0 side.1 v) u)
+    R.and_then (call (BinaryOp (level_up c) w (position_of side.2) n side.2) t) (λ v u. exec call (run (binary_next (level_up c) w parent lhs side.0 side.1 v)) u)
 
-side_first : (call : Caller) (c : Context) (w : Live) (at : Position) (parent : ℕ) (lhs : Node) (n : ℕ) (s : Progress) → exec call (Peek (binary_on c w at parent lhs n)) s ≡ R.and_then (exec call (right_side c w at) s) (behind_side call c w parent lhs n)
+side_first : (call : Caller) (c : Context) (w : Live) (at : Position) (parent : ℕ) (lhs : Node) (n : ℕ) (s : Progress) → exec call (run (binary_on c w at parent lhs n)) s ≡ R.and_then (exec call (run (right_side c w at)) s) (behind_side call c w parent lhs n)
 side_first call c w at parent lhs n s =
     let op = (next_item s).lexeme in
     let pos = (next_item s).at in
     let behind = behind_side call c w parent lhs n in
-    let raise : (x : Node) (u : Progress) → exec call (raised c at (λ d. Call (BinaryOp d w (position_of x) n x) (binary_next d w parent lhs op pos))) u ≡ R.and_then (exec call (raised c at (λ d. Ret (op, pos, x))) u) behind =
-    λ x u. where_room call (may_raise c) (Call (BinaryOp (level_up c) w (position_of x) n x) (binary_next (level_up c) w parent lhs op pos)) (Ret (op, pos, x)) (refusal ExprTooDeep at) u behind refl in
-    let look : (x : Node) (t : Progress) → exec call (binary_right c w at parent lhs n op pos x) t ≡ R.and_then (exec call (Call (NextOperator c.filter) (λ next. raised c at (λ d. Ret (op, pos, x)))) t) behind =
-    λ x t. regrouped (call (NextOperator c.filter) t) _ (λ next u. exec call (raised c at (λ d. Ret (op, pos, x))) u) behind (λ next u. raise x u) in
+    let side : Node → Production (Lexeme × Position × Node) = λ x. raise c at (λ d. give (op, pos, x)) in
+    let tighter : Node → Context → Production Node = λ x d. part (BinaryOp d w (position_of x) n x) (binary_next d w parent lhs op pos) in
+    let room : (x : Node) (u : Progress) → exec call (run (raise c at (tighter x))) u ≡ R.and_then (exec call (run (side x)) u) behind =
+    λ x u. where_room call (may_raise c) (run (tighter x (level_up c))) (run (give (op, pos, x))) (refusal ExprTooDeep at) u behind refl in
+    let look : (x : Node) (t : Progress) → exec call (run (binary_right c w at parent lhs n op pos x)) t ≡ R.and_then (exec call (run (part (NextOperator c.filter) (λ next. side x))) t) behind =
+    λ x t. regrouped (call (NextOperator c.filter) t) _ (λ next u. exec call (run (side x)) u) behind (λ next u. room x u) in
     unless_out (is_memory op) (after_peek s) (after_peek s) _ _ behind
-    (regrouped (nested (call (RightOperand c w (role_after op))) (after_take s)) _ (λ x t. exec call (Call (NextOperator c.filter) (λ next. raised c at (λ d. Ret (op, pos, x)))) t) behind look)
+    (regrouped (nested (call (RightOperand c w (role_after op))) (after_take s)) _ (λ x t. exec call (run (part (NextOperator c.filter) (λ next. side x))) t) behind look)
 
 -- What is refused on the right of an operator is refused by the run around.
-pub right_refused : (c : Context) (w : Live) (at : Position) (parent : ℕ) (lhs : Node) (n : ℕ) (s s1 t : Progress) (e : Refusal) → result_of (BinaryOp c w at parent lhs) s ≡ exec (guarded (BinaryOp c w at parent lhs) s) (Peek (binary_on c w at parent lhs n)) s1
-    → exec (guarded (BinaryOp c w at parent lhs) s) (right_side c w at) s1 ≡ R.Refused e t → result_of (BinaryOp c w at parent lhs) s ≡ R.Refused e t
+pub right_refused : (c : Context) (w : Live) (at : Position) (parent : ℕ) (lhs : Node) (n : ℕ) (s s1 t : Progress) (e : Refusal) → result_of (BinaryOp c w at parent lhs) s ≡ exec (guarded (BinaryOp c w at parent lhs) s) (run (binary_on c w at parent lhs n)) s1
+    → exec (guarded (BinaryOp c w at parent lhs) s) (run (right_side c w at)) s1 ≡ R.Refused e t → result_of (BinaryOp c w at parent lhs) s ≡ R.Refused e t
 right_refused c w at parent lhs n s s1 t e found reads =
     let call = guarded (BinaryOp c w at parent lhs) s in
     found ∙ side_first call c w at parent lhs n s1 ∙ ap (λ o. R.and_then o (behind_side call c w parent lhs n)) reads
@@ -72,12 +76,12 @@ right_refused c w at parent lhs n s s1 t e found reads =
 
 module _ (c : Context) (w : Live) (at : Position) (parent : ℕ) (lhs : Node) (s : Progress) (next : Option Operator) (is : NextIs c.filter next s) where
   -- where it goes on with the run
-  pub run_goes_on : (o : Operator) → in_run parent next ≡ Some o → result_of (BinaryOp c w at parent lhs) s ≡ exec (guarded (BinaryOp c w at parent lhs) s) (Peek (binary_on c w at parent lhs o.strength)) s
-  run_goes_on o found = is c w at parent lhs refl ∙ ap (λ r. exec (guarded (BinaryOp c w at parent lhs) s) (run_at c w at parent lhs r) s) found
+  pub run_goes_on : (o : Operator) → in_run parent next ≡ Some o → result_of (BinaryOp c w at parent lhs) s ≡ exec (guarded (BinaryOp c w at parent lhs) s) (run (binary_on c w at parent lhs o.strength)) s
+  run_goes_on o found = is c w at parent lhs refl ∙ ap (λ r. exec (guarded (BinaryOp c w at parent lhs) s) (run (run_at c w at parent lhs r)) s) found
 
   -- where it does not
   pub run_ends : in_run parent next ≡ None → result_of (BinaryOp c w at parent lhs) s ≡ R.Done lhs s
-  run_ends none = is c w at parent lhs refl ∙ ap (λ r. exec (guarded (BinaryOp c w at parent lhs) s) (run_at c w at parent lhs r) s) none
+  run_ends none = is c w at parent lhs refl ∙ ap (λ r. exec (guarded (BinaryOp c w at parent lhs) s) (run (run_at c w at parent lhs r)) s) none
 
 -- ---- what waits
 
@@ -152,8 +156,8 @@ nothing_waits {engine} {frame} {start} {c} {bound} {ps} {at} parent lhs s none s
 -- settings.
 pub record Pushes (engine : EngineValue) (frame : FrameValue) (start settings side : ParseSettings) (parent : ℕ) (lhs : Node) (n : ℕ) (x : Node) (p : Pending) (s s1 t : Progress) : Type 0 where
   pub found : result_of (binary_op settings.pos parent lhs engine frame settings) s
-      ≡ exec (guarded (binary_op settings.pos parent lhs engine frame settings) s) (Peek (binary_on (context_of engine frame settings) (live_of frame) settings.pos parent lhs n)) s1
-  pub reads : exec (guarded (binary_op settings.pos parent lhs engine frame settings) s) (right_side (context_of engine frame settings) (live_of frame) settings.pos) s1
+      ≡ exec (guarded (binary_op settings.pos parent lhs engine frame settings) s) (run (binary_on (context_of engine frame settings) (live_of frame) settings.pos parent lhs n)) s1
+  pub reads : exec (guarded (binary_op settings.pos parent lhs engine frame settings) s) (run (right_side (context_of engine frame settings) (live_of frame) settings.pos)) s1
       ≡ R.Done (lexeme p.op_token, p.pos, x) t
   pub short : left t.cursor.tokens + 1 ≤ left s.cursor.tokens
   pub left_side : chain_view p.around.lhs ≡ lhs
@@ -177,7 +181,7 @@ module _ {engine : EngineValue} {frame : FrameValue} {start settings side : Pars
 
   -- what the run around makes of what the run on the right gives
   behind : R.Out Node → R.Out Node
-  behind o = R.and_then o (λ v u. exec call (binary_next (level_up c) w parent lhs (lexeme p.op_token) p.pos v) u)
+  behind o = R.and_then o (λ v u. exec call (run (binary_next (level_up c) w parent lhs (lexeme p.op_token) p.pos v)) u)
 
   side_read : result_of (binary_op settings.pos parent lhs engine frame settings) s ≡ behind (result_of (binary_op side.pos n x engine frame side) t)
   unfolding c w call behind

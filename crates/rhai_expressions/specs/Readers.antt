@@ -6,7 +6,8 @@ use Rattle.rhai_lower.specs.Nodes.{position_of}
 use Rattle.rhai_lower.specs.View.{view}
 use Rattle.rhai_lower.specs.declared.expr.Expr.{Expr}
 use Rattle.rhai_grammar.specs.declared.error.ParseError.{ParseError}
-use Rattle.rhai_reading.specs.Reading.{Val}
+use Rattle.rhai_grammar.specs.Rules.{operand_ends}
+use Rattle.rhai_reading.specs.Reading.{Val, run}
 use Rattle.rhai_base.specs.Frames.{FrameValue}
 use Rattle.rhai_base.specs.declared.settings.ParseSettings.{ParseSettings}
 use Rattle.rhai_trees.specs.Chains.{chain_view}
@@ -16,7 +17,6 @@ use Rattle.rhai_readers.specs.Frames.{context_of, live_of}
 use Rattle.rhai_readers.specs.Parts.{ReadsPart, ReadsSuch}
 use Rattle.rhai_readers.specs.Readers.{Covers, Reading, ReadsAs, binary_op, index, member, operand}
 use Rattle.rhai_readers.specs.declared.shared.Shared.{Shared}
-use Rattle.rhai_expressions.specs.Operands.{operand_ends}
 use Rattle.rhai_expressions.specs.declared.reader.Reader.{Reader}
 
 -- Calls of each need below that of this goal may be made.
@@ -49,4 +49,4 @@ abbrev pub ReadsEnds : {R : Type 0} → Reader R → FrameValue → ParseSetting
     → Shared → Result Chain ParseError → Shared → Type 0
 ReadsEnds reader frame settings first =
     ReadsPart reader.engine.now frame settings 3 (operand reader.engine.now frame settings)
-    (operand_ends (context_of reader.engine.now frame settings) (live_of frame) (chain_view first)) chain_view
+    (run (operand_ends (context_of reader.engine.now frame settings) (live_of frame) (chain_view first))) chain_view

@@ -9,8 +9,9 @@ use Rattle.rhai_grammar.specs.Contexts.{Context, Live}
 use Rattle.rhai_grammar.specs.Cursors.{left}
 use Rattle.rhai_grammar.specs.Delivered.{is_end, is_memory}
 use Rattle.rhai_grammar.specs.Starts.{role_after}
-use Rattle.rhai_reading.specs.Reading.{BinaryOp, Call, Goal, NextOperator, Peek, Prog, Ret, RightOperand, Take}
-use Rattle.rhai_reading.specs.Reading.{binary_on, raised}
+use Rattle.rhai_grammar.specs.Productions.{Production, give, part, raise, this}
+use Rattle.rhai_grammar.specs.Rules.{binary_on}
+use Rattle.rhai_reading.specs.Reading.{BinaryOp, Goal, NextOperator, RightOperand, run}
 use Rattle.rhai_reading.specs.Running.{Gives, Progress, exec, guarded, next_item, result_of}
 use Rattle.rhai_grammar.specs.declared.error.ParseError.{ParseError}
 use Rattle.rhai_grammar.specs.declared.filter.ExprFilter.{ExprFilter}
@@ -27,9 +28,9 @@ use Rattle.rhai_readers.specs.declared.shared.Shared.{Shared}
 use Rattle.rhai_expressions.specs.declared.expr.runs.Side.{Side}
 
 -- how a run goes on, by the operator of it that comes next, if one does
-abbrev pub run_at : Context → Live → Position → ℕ → Node → Option Operator → Prog Node
-run_at context live at parent lhs None = Ret lhs
-run_at context live at parent lhs (Some operator) = Peek (binary_on context live at parent lhs operator.strength)
+abbrev pub run_at : Context → Live → Position → ℕ → Node → Option Operator → Production Node
+run_at context live at parent lhs None = give lhs
+run_at context live at parent lhs (Some operator) = binary_on context live at parent lhs operator.strength
 
 -- the operator that comes next, if it goes on with a run
 abbrev pub in_run : (parent : ℕ) → Option Operator → Option Operator
@@ -40,14 +41,14 @@ in_run parent (Some operator) = if continues parent operator then Some operator 
 abbrev pub NextIs : ExprFilter → Option Operator → Progress → Type 0
 NextIs filter next s = (c : Context) (w : Live) (at : Position) (parent : ℕ) (lhs : Node) → c.filter ≡ filter
     → result_of (BinaryOp c w at parent lhs) s
-    ≡ exec (guarded (BinaryOp c w at parent lhs) s) (run_at c w at parent lhs (in_run parent next)) s
+    ≡ exec (guarded (BinaryOp c w at parent lhs) s) (run (run_at c w at parent lhs (in_run parent next))) s
 
 -- An operator and the operand after it: the token, its position and the operand. The level that is raised behind them
 -- is refused at a position.
-abbrev pub right_side : Context → Live → Position → Prog (Lexeme × Position × Node)
+abbrev pub right_side : Context → Live → Position → Production (Lexeme × Position × Node)
 right_side context live at =
-    Peek (λ op pos. Take (Call (RightOperand context live (role_after op)) (λ rhs.
-    Call (NextOperator context.filter) (λ next. raised context at (λ deeper. Ret (op, pos, rhs))))))
+    this (λ token op_at. part (RightOperand context live (role_after token)) (λ rhs.
+    part (NextOperator context.filter) (λ next. raise context at (λ deeper. give (token, op_at, rhs)))))
 
 abbrev pub side_view : Side → Lexeme × Position × Node
 side_view side = (lexeme side.op_token, side.pos, chain_view side.rhs)
@@ -70,5 +71,5 @@ pub record ReadsSide (engine : EngineValue) (frame : FrameValue) (settings : Par
   pub next : IfOk result (λ r. Follows frame.filter r.next (state_of new))
   pub reads : (g : Goal) (s : Progress) → left (state_of old).cursor.tokens ≤ left s.cursor.tokens
       → Gives side_view
-      (exec (guarded g s) (right_side (context_of engine frame settings) (live_of frame) settings.pos) (state_of old))
-      result (state_of new)
+      (exec (guarded g s) (run (right_side (context_of engine frame settings) (live_of frame) settings.pos))
+      (state_of old)) result (state_of new)

@@ -15,7 +15,7 @@ use rhai_base::words::{Call, make_method};
 use rhai_base::{Frame, ParseSettings};
 use rhai_grammar::{Calling, Linking, ParseResult};
 use rhai_leaves::cursor::{peek, skip};
-use rhai_leaves::due::{arguments_due, no_bang};
+use rhai_leaves::due::{arguments_due, no_arguments, no_bang};
 use rhai_leaves::links::{is_name, is_negated, member_due, unscoped, what_links};
 use rhai_leaves::refusals::reserved;
 use rhai_leaves::tokens::{is_called, what_calls};
@@ -40,22 +40,33 @@ impl<R: LentReaders> Reader<'_, R> {
     {
         let (token, pos) = peek(shared.input)?;
         let pos = *pos;
-        let bang = matches!(what_calls(token), Calling::Bang);
+        let mut calling = what_calls(token);
+        let bang = matches!(calling, Calling::Bang);
         if bang {
             skip(shared.input);
             if qualified {
                 return Err(no_bang(self.engine.alloc(), shared.input, pos));
             }
+            calling = arguments_due(self.engine.alloc(), shared.input)?;
         }
-        let listed = arguments_due(self.engine.alloc(), shared.input)?;
-        skip(shared.input);
-        if !listed {
-            let args = Vec::new(self.engine.alloc());
-            return Ok(Call { bang, args });
-        }
-        match nested!(shared, self.parse_fn_call_args(shared, frame, settings)) {
-            Ok(args) => Ok(Call { bang, args }),
-            Err(error) => Err(error),
+        match calling {
+            Calling::Pair => {
+                skip(shared.input);
+                Ok(Call {
+                    bang,
+                    args: Vec::new(self.engine.alloc()),
+                })
+            }
+            Calling::List => {
+                skip(shared.input);
+                match nested!(shared, self.parse_fn_call_args(shared, frame, settings)) {
+                    Ok(args) => Ok(Call { bang, args }),
+                    Err(error) => Err(error),
+                }
+            }
+            Calling::Bang | Calling::Nothing => {
+                Err(no_arguments(self.engine.alloc(), shared.input))
+            }
         }
     }
 

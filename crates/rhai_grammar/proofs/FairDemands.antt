@@ -3,7 +3,7 @@ use Rattle.std.proofs.Common.{◌≡◌, false, sym, ◌∙◌, ap, subst, inl, 
 use Rattle.rhai_grammar.specs.Prelude.{Lexeme, Position, Refusal, Item, Mode, Point, adding, apart, capturing}
 use Rattle.rhai_grammar.specs.Prelude.{with_captured, next_at, past, ◌▸◌, Apart, Captures, Uses, Ahead, Blames, Adds}
 use Rattle.rhai_grammar.specs.Prelude.{Demands, TestIn, Fine, Literally, Met, Missed, Next, Nothing, Otherwise, Shape}
-use Rattle.rhai_grammar.specs.Prelude.{Test, Tok, Verdict, Wrong, verdict, IsFair, is_refused}
+use Rattle.rhai_grammar.specs.Prelude.{NoFault, Test, Tok, Verdict, Wrong, verdict, IsFair, is_refused}
 use Rattle.rhai_grammar.specs.Delivered as M
 use Rattle.rhai_grammar.specs.Demands.{Refused, Refuses}
 
@@ -24,6 +24,7 @@ one_end (Tok mode i others ▸ ds) s t u m n = one_end ds (past mode s) t u m.1 
 one_end (Ahead i others ▸ ds) s t u m n = one_end ds s t u m.1 n.1
 one_end (Next v ▸ ds) s t u m n = one_end ds s t u m.1 n.1
 one_end (Test holds d ▸ ds) s t u m n = one_end ds s t u m.1 n.1
+one_end (NoFault f ▸ ds) s t u m n = one_end ds s t u m.1 n.1
 one_end (TestIn holds d ▸ ds) s t u m n = one_end ds s t u m.1 n.1
 one_end (Adds x ▸ ds) s t u m n = one_end ds (adding x s) t u m.1 n.1
 one_end (Uses v b x ▸ ds) s t u m n =
@@ -57,6 +58,8 @@ met_or_missed (TestIn holds d ▸ ds) s t u e o h m (inr n) = met_or_missed ds s
 met_or_missed (Adds x ▸ ds) s t u e o h m n = met_or_missed ds (adding x s) t u e o h m.1 n.1
 met_or_missed (Test holds d ▸ ds) s t u e o h m (inl r) = let a = m.0 in let b = r.0 in absurd cc
 met_or_missed (Test holds d ▸ ds) s t u e o h m (inr n) = met_or_missed ds s t u e o h m.1 n.1
+met_or_missed (NoFault f ▸ ds) s t u e o h m (inl r) = let a = m.0 in let b = r.0 in absurd cc
+met_or_missed (NoFault f ▸ ds) s t u e o h m (inr n) = met_or_missed ds s t u e o h m.1 n.1
 met_or_missed (Captures holds d b x ▸ ds) s t u e o h m (inl r) = let a = m.0 in let b = r.0 in absurd cc
 met_or_missed (Captures holds d b x ▸ ds) s t u e o h m (inr n) =
     met_or_missed ds (capturing (b s.library) x s) t u e o h m.1 n.1

@@ -1,7 +1,8 @@
 -- Refusals along demands are at tokens, step by step.
 use Rattle.std.proofs.Common.{◌≡◌, inl, inr, true, List, [], ◌∷◌, refl, sym, ◌∙◌, subst}
 use Rattle.rhai_grammar.specs.Prelude.{Adds, Ahead, Apart, Captures, Demands, Literally, Met, Missed, Mode, Next}
-use Rattle.rhai_grammar.specs.Prelude.{Nothing, Point, Position, Refusal, Shape, Taken, Test, TestIn, Tok, Use, Uses}
+use Rattle.rhai_grammar.specs.Prelude.{NoFault, Nothing, Point, Position, Refusal, Shape, Taken, Test, TestIn, Tok, Use}
+use Rattle.rhai_grammar.specs.Prelude.{Uses}
 use Rattle.rhai_grammar.specs.Prelude.{adding, apart, ask, capturing, code, next_at, past, text, with_captured, ◌▸◌}
 
 -- ---- in which mode each token is requested
@@ -15,6 +16,7 @@ Modes m n (Ahead i v ▸ ds) = (m ≡ code) × Modes m n ds
 Modes m n (Next v ▸ ds) = Modes m n ds
 Modes m n (Uses v b u ▸ ds) = Modes m n ds
 Modes m n (Test b e ▸ ds) = Modes m n ds
+Modes m n (NoFault f ▸ ds) = Modes m n ds
 Modes m n (TestIn b e ▸ ds) = Modes m n ds
 Modes m n (Adds x ▸ ds) = Modes m n ds
 Modes m n (Captures h e b u ▸ ds) = Modes m n ds
@@ -74,6 +76,7 @@ module _ (G : Position → Type 0) where
   taken_met (Uses v b u ▸ ds) s t m h =
       taken_met ds (capturing (b s.library (next_at code s).lexeme) u s) t m.1 h
   taken_met (Test b e ▸ ds) s t m h = taken_met ds s t m.1 h
+  taken_met (NoFault f ▸ ds) s t m h = taken_met ds s t m.1 h
   taken_met (TestIn b e ▸ ds) s t m h = taken_met ds s t m.1 h
   taken_met (Adds x ▸ ds) s t m h = taken_met ds (adding x s) t m.1 h
   taken_met (Captures g e b u ▸ ds) s t m h = taken_met ds (capturing (b s.library) u s) t m.1 h
@@ -99,6 +102,8 @@ module _ (G : Position → Type 0) where
       taken_missed ds (capturing (c s.library (next_at code s).lexeme) u s) t e n b.1 h
   taken_missed (Test c d ▸ ds) s t e n (inl a) h = same_taken s t a.3 h
   taken_missed (Test c d ▸ ds) s t e n (inr b) h = taken_missed ds s t e n b.1 h
+  taken_missed (NoFault f ▸ ds) s t e n (inl a) h = same_taken s t a.2 h
+  taken_missed (NoFault f ▸ ds) s t e n (inr b) h = taken_missed ds s t e n b.1 h
   taken_missed (TestIn c d ▸ ds) s t e n (inl a) h = same_taken s t a.3 h
   taken_missed (TestIn c d ▸ ds) s t e n (inr b) h = taken_missed ds s t e n b.1 h
   taken_missed (Adds x ▸ ds) s t e n m h = taken_missed ds (adding x s) t e n m.1 h
@@ -122,6 +127,7 @@ module _ (G : Position → Type 0) where
   next_met (Uses v b u ▸ ds) p q s t o m h =
       let r = capturing (b s.library (next_at code s).lexeme) u s in moved p r s refl (next_met ds p q r t o m.1 h)
   next_met (Test b e ▸ ds) p q s t o m h = next_met ds p q s t o m.1 h
+  next_met (NoFault f ▸ ds) p q s t o m h = next_met ds p q s t o m.1 h
   next_met (TestIn b e ▸ ds) p q s t o m h = next_met ds p q s t o m.1 h
   next_met (Adds x ▸ ds) p q s t o m h = moved p (adding x s) s refl (next_met ds p q (adding x s) t o m.1 h)
   next_met (Captures g e b u ▸ ds) p q s t o m h =
@@ -154,6 +160,8 @@ module _ (G : Position → Type 0) where
       moved p r s refl (next_missed ds p q n r t e o b.1 h)
   next_missed (Test c d ▸ ds) p q n s t e o (inl a) h = at_end p n s t a.2 a.3 h
   next_missed (Test c d ▸ ds) p q n s t e o (inr b) h = next_missed ds p q n s t e o b.1 h
+  next_missed (NoFault f ▸ ds) p q n s t e o (inl a) h = at_end p n s t a.1 a.2 h
+  next_missed (NoFault f ▸ ds) p q n s t e o (inr b) h = next_missed ds p q n s t e o b.1 h
   next_missed (TestIn c d ▸ ds) p q n s t e o (inl a) h = at_end p n s t a.2 a.3 h
   next_missed (TestIn c d ▸ ds) p q n s t e o (inr b) h = next_missed ds p q n s t e o b.1 h
   next_missed (Adds x ▸ ds) p q n s t e o m h =

@@ -1,5 +1,5 @@
 -- What a form may demand of a stream, and when that is met or missed. Demands are met or missed along the stream.
-use Rattle.std.specs.Prelude.{◌≡◌, ◌⊎◌, ℕ, List, Bool, true, false, refl, if◌then◌else◌}
+use Rattle.std.specs.Prelude.{◌≡◌, ◌⊎◌, ℕ, List, Option, Some, None, Bool, true, false, refl, if◌then◌else◌}
 use mathlib.Core.Logic.{inl}
 use Rattle.rhai_lower.specs.Lexemes.{Lexeme}
 use Rattle.rhai_lower.specs.declared.position.Position.{Position}
@@ -35,6 +35,8 @@ mutual
     Uses : (Library → Lexeme → Verdict) → (captures : Library → Lexeme → Bool) → Use → Demand
     -- a test of what was parsed, and the error if it fails
     Test : Bool → Refusal → Demand
+    -- no fault was found in what was parsed; it is the error
+    NoFault : (fault : Option Refusal) → Demand
     -- a test of the functions that have ended, and the error if it fails
     TestIn : (Library → Bool) → Refusal → Demand
     -- one more function ends here
@@ -75,6 +77,7 @@ Met (Uses test captures u ▸ rest) start end =
     (verdict (test start.library) (next_at code start).lexeme ≡ Fine)
     × Met rest (capturing (captures start.library (next_at code start).lexeme) u start) end
 Met (Test holds why ▸ rest) start end = (holds ≡ true) × Met rest start end
+Met (NoFault fault ▸ rest) start end = (fault ≡ None) × Met rest start end
 Met (TestIn holds why ▸ rest) start end = (holds start.library ≡ true) × Met rest start end
 Met (Adds ended ▸ rest) start end = Unit {0} × Met rest (adding ended start) end
 Met (Captures holds why captures u ▸ rest) start end =
@@ -116,6 +119,8 @@ Missed (Uses test captures u ▸ rest) start error mode end =
 Missed (Test holds why ▸ rest) start error mode end =
     ((holds ≡ false) × (error ≡ why) × (mode ≡ code) × (end ≡ start))
     ⊎ ((holds ≡ true) × Missed rest start error mode end)
+Missed (NoFault fault ▸ rest) start error mode end =
+    ((fault ≡ Some error) × (mode ≡ code) × (end ≡ start)) ⊎ ((fault ≡ None) × Missed rest start error mode end)
 Missed (TestIn holds why ▸ rest) start error mode end =
     ((holds start.library ≡ false) × (error ≡ why) × (mode ≡ code) × (end ≡ start))
     ⊎ ((holds start.library ≡ true) × Missed rest start error mode end)

@@ -7,9 +7,10 @@ use Rattle.rhai_grammar.specs.Uses.{Use, with_use}
 use Rattle.rhai_grammar.specs.Libraries.{Ended, Library, with_ended, is_function}
 use Rattle.rhai_grammar.specs.Goals.{Goal, Val}
 use Rattle.rhai_grammar.specs.Productions.{Production}
-use Rattle.rhai_grammar.specs.Forms.{given, take, this, if_so, if_not, choose, here, must, knows, adds, uses, captures}
-use Rattle.rhai_grammar.specs.Forms.{part, literal, apart, in_text, form, open_form, never_here, take_here, must_here}
-use Rattle.rhai_grammar.specs.Forms.{knows_here, uses_here, captures_here, part_here, literal_here, apart_here}
+use Rattle.rhai_grammar.specs.Forms.{given, take, this, if_so, if_not, choose, here, must, checked, knows, adds, uses}
+use Rattle.rhai_grammar.specs.Forms.{captures, part, literal, apart, in_text, form, open_form, never_here, take_here}
+use Rattle.rhai_grammar.specs.Forms.{must_here, checked_here, knows_here, uses_here, captures_here, part_here}
+use Rattle.rhai_grammar.specs.Forms.{literal_here, apart_here}
 use Rattle.rhai_grammar.specs.Forms.{brace_here, text_here, Form, Filled, Open, FilledIn}
 use Rattle.std.specs.List.{fold}
 use Rattle.std.specs.Option.{is_some}
@@ -61,6 +62,7 @@ module _ (rule : (g : Goal) → Production (Val g)) where
     spelling_in (choose l at f) = spelling_in f
     spelling_in (here l at f) = spelling_in f
     spelling_in (must f) = spelling_in f
+    spelling_in (checked f) = spelling_in f
     spelling_in (knows f) = spelling_in f
     spelling_in (adds f) = spelling_in f
     spelling_in (uses l at f) = spelling_in f
@@ -91,6 +93,8 @@ module _ (rule : (g : Goal) → Production (Val g)) where
     events_in (here l at f) = events_in f
     events_in (must f) = events_in f
     events_in must_here = []
+    events_in (checked f) = events_in f
+    events_in checked_here = []
     events_in (knows f) = events_in f
     events_in knows_here = []
     events_in (adds {f = x} f) = HasEnded x ∷ events_in f

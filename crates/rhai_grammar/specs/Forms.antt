@@ -8,7 +8,7 @@ use Rattle.rhai_grammar.specs.Delivered.{item, code, text}
 use Rattle.rhai_grammar.specs.Uses.{Use}
 use Rattle.rhai_grammar.specs.Libraries.{Ended, Library}
 use Rattle.rhai_grammar.specs.Demands.{Verdict, Fine, Wrong, Blames, Otherwise, Demands, Nothing, ◌▸◌, Tok, Ahead, Next}
-use Rattle.rhai_grammar.specs.Demands.{Test, TestIn, Adds, Captures, Uses, Shape, Literally, Apart}
+use Rattle.rhai_grammar.specs.Demands.{Test, NoFault, TestIn, Adds, Captures, Uses, Shape, Literally, Apart}
 use Rattle.rhai_grammar.specs.DueTokens.{is_due, not_due}
 use Rattle.rhai_grammar.specs.Interpolations.{is_text}
 use Rattle.rhai_grammar.specs.Beginnings.{unexpected}
@@ -83,6 +83,9 @@ module _ (rule : (g : Goal) → Production (Val g)) where
       must : {h : Goal} {b : Bool} {e : Refusal} {p : Production (Val h)} {r : Option (Val h)} → FilledIn h p r
           → FilledIn h (S.must b e p) r
       must_here : {h : Goal} {b : Bool} {e : Refusal} {p : Production (Val h)} → FilledIn h (S.must b e p) None
+      checked : {h : Goal} {e : Option Refusal} {p : Production (Val h)} {r : Option (Val h)} → FilledIn h p r
+          → FilledIn h (S.checked e p) r
+      checked_here : {h : Goal} {e : Option Refusal} {p : Production (Val h)} → FilledIn h (S.checked e p) None
       knows : {h : Goal} {t : Library → Bool} {e : Refusal} {p : Production (Val h)} {r : Option (Val h)}
           → FilledIn h p r → FilledIn h (S.knows t e p) r
       knows_here : {h : Goal} {t : Library → Bool} {e : Refusal} {p : Production (Val h)}
@@ -143,6 +146,8 @@ module _ (rule : (g : Goal) → Production (Val g)) where
     demanded (here l at f) more = Next any_token ▸ Ahead (item l at) anything ▸ demanded f more
     demanded (must {b = b} {e = e} f) more = Test b e ▸ demanded f more
     demanded (must_here {b = b} {e = e}) more = Test b e ▸ Nothing
+    demanded (checked {e = e} f) more = NoFault e ▸ demanded f more
+    demanded (checked_here {e = e}) more = NoFault e ▸ Nothing
     demanded (knows {t = t} {e = e} f) more = TestIn t e ▸ demanded f more
     demanded (knows_here {t = t} {e = e}) more = TestIn t e ▸ Nothing
     demanded (adds {f = x} f) more = Adds x ▸ demanded f more
@@ -181,6 +186,7 @@ module _ (rule : (g : Goal) → Production (Val g)) where
     depth_in (choose l at f) = depth_in f
     depth_in (here l at f) = depth_in f
     depth_in (must f) = depth_in f
+    depth_in (checked f) = depth_in f
     depth_in (knows f) = depth_in f
     depth_in (adds f) = depth_in f
     depth_in (uses l at f) = depth_in f

@@ -9,7 +9,7 @@ use Rattle.rhai_grammar.specs.Delivered.{Mode, Point, IsDelivered}
 use Rattle.rhai_grammar.specs.Cursors.{delivered}
 use Rattle.rhai_grammar.specs.Demands.{Verdict, Wrong, Blames, Demands, Nothing, Tok, Ahead, Next, Test, Shape}
 use Rattle.rhai_grammar.specs.Demands.{◌▸◌, Adds, Apart, Captures, Literally, TestIn, Uses}
-use Rattle.rhai_grammar.specs.Demands.{verdict, Met, Missed}
+use Rattle.rhai_grammar.specs.Demands.{NoFault, verdict, Met, Missed}
 
 -- Entries that may be delivered make a delivered stream.
 abbrev pub EntriesAreDelivered : Type 0
@@ -31,6 +31,7 @@ IsFair (Ahead i others ▸ ds) = (is_refused (verdict others i.lexeme) ≡ false
 IsFair (Next v ▸ ds) = IsFair ds
 IsFair (Uses v captures u ▸ ds) = IsFair ds
 IsFair (Test holds e ▸ ds) = IsFair ds
+IsFair (NoFault fault ▸ ds) = IsFair ds
 IsFair (TestIn holds e ▸ ds) = IsFair ds
 IsFair (Adds ended ▸ ds) = IsFair ds
 IsFair (Captures holds e captures u ▸ ds) = IsFair ds

@@ -29,8 +29,8 @@ pub use Rattle.rhai_grammar.specs.Delivered.{Ends, Item, Mode, Point, Taken, The
 pub use Rattle.rhai_grammar.specs.Delivered.{capturing, code, is_end, is_memory, item, later, next_at, past, text}
 pub use Rattle.rhai_grammar.specs.Delivered.{with_captured}
 pub use Rattle.rhai_grammar.specs.Demands.{Adds, Ahead, Apart, Blames, Captures, Demands, Fine, Literally, Met, Missed}
-pub use Rattle.rhai_grammar.specs.Demands.{Next, Nothing, Otherwise, Shape, Test, TestIn, Tok, Uses, Verdict, Wrong}
-pub use Rattle.rhai_grammar.specs.Demands.{verdict, ◌▸◌}
+pub use Rattle.rhai_grammar.specs.Demands.{Next, NoFault, Nothing, Otherwise, Shape, Test, TestIn, Tok, Uses, Verdict}
+pub use Rattle.rhai_grammar.specs.Demands.{Wrong, verdict, ◌▸◌}
 pub use Rattle.rhai_grammar.specs.DueTokens.{is_due, not_due}
 pub use Rattle.rhai_grammar.specs.Functions.{duplicate_of, ended_function, in_function, is_new, is_type}
 pub use Rattle.rhai_grammar.specs.Functions.{may_begin, no_function_name}

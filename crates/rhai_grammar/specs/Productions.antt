@@ -1,7 +1,6 @@
 -- What a production is: tokens and parts in written order, tests of them, and the tree. From it follow the
 -- written forms with what they demand, a reader, and laws of both.
-use Rattle.std.specs.Prelude.{◌≡◌, ℕ, Bool, true, false, not, Option, Some, None, List}
-use Rattle.rhai_lower.specs.Positions.{nowhere}
+use Rattle.std.specs.Prelude.{◌≡◌, ℕ, Bool, true, false, not, Option, List}
 use Rattle.rhai_lower.specs.Lexemes.{Lexeme, text_of}
 use Rattle.rhai_lower.specs.declared.position.Position.{Position}
 use Rattle.rhai_lower.specs.Texts.{Text}
@@ -36,7 +35,9 @@ pub data Production (A : Type 0) : Type 0 where
   here : (Position → Production A) → Production A
   -- this has to hold, or is refused so
   must : (holds : Bool) → Refusal → Production A → Production A
-  -- the same of the functions that have ended
+  -- there is no fault, or it is refused
+  checked : (fault : Option Refusal) → Production A → Production A
+  -- this has to hold of the functions that have ended, or is refused so
   knows : (holds : Library → Bool) → Refusal → Production A → Production A
   -- a function or closure ends here
   adds : Ended → Production A → Production A
@@ -74,19 +75,6 @@ unless b why rest = must (not b) why rest
 abbrev pub raise : {A : Type 0} → Context → Position → (Context → Production A) → Production A
 raise context at rest = must (may_raise context) (refusal cause.ExprTooDeep at) (rest (level_up context))
 
-abbrev pub fault_free : Option Refusal → Bool
-fault_free None = true
-fault_free (Some why) = false
-
--- the fault; some other one, if there is none
-abbrev pub fault_of : Option Refusal → Refusal
-fault_of None = refusal cause.ExprTooDeep nowhere
-fault_of (Some why) = why
-
--- unless there is a fault
-abbrev pub faultless : Option Refusal → {A : Type 0} → Production A → Production A
-faultless fault rest = must (fault_free fault) (fault_of fault) rest
-
 -- this is given, unless there is a fault
 abbrev pub tested : {A : Type 0} → A → Option Refusal → Production A
-tested x fault = faultless fault (give x)
+tested x fault = checked fault (give x)

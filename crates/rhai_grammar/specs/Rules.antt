@@ -14,23 +14,31 @@ use Rattle.rhai_grammar.specs.Causes as cause
 use Rattle.rhai_grammar.specs.declared.list.CommaList.TheVariants as lists
 use Rattle.rhai_grammar.specs.Goals as goal
 use Rattle.rhai_grammar.specs.Views as view
-pub use Rattle.rhai_grammar.specs.RulesOfLists.{parted, items_of, arguments_of, element_by, key_by, field_by}
-pub use Rattle.rhai_grammar.specs.RulesOfCalls.{arguments_by, called_by, path_next, path_of, call_of}
+pub use Rattle.rhai_grammar.specs.RulesOfLists.{parted, items_of, arguments_of, element_by, key_by, key_on, field_by}
+pub use Rattle.rhai_grammar.specs.RulesOfLists.{field_next}
+pub use Rattle.rhai_grammar.specs.RulesOfCalls.{arguments_by, called_by, path_next, path_of, call_of, call_on}
 pub use Rattle.rhai_grammar.specs.Verdicts.{bang_fault}
-pub use Rattle.rhai_grammar.specs.RulesOfCalls.{postfix_of, property_of, member_of, index_of, dotted_by, links_by}
+pub use Rattle.rhai_grammar.specs.RulesOfCalls.{postfix_of, property_of, member_of, index_of, index_on, dotted_by}
+pub use Rattle.rhai_grammar.specs.RulesOfCalls.{links_by}
 pub use Rattle.rhai_grammar.specs.RulesOfOperands.{word_of, primary_by, operand_by, right_by, follower_by}
-pub use Rattle.rhai_grammar.specs.RulesOfOperands.{binary_on, binary_of, expression_of, whole, segments_of}
+pub use Rattle.rhai_grammar.specs.RulesOfOperands.{binary_on, binary_next, binary_of, binary_right, expression_of}
+pub use Rattle.rhai_grammar.specs.RulesOfOperands.{name_of, operand_ends, segments_of, sign_on, whole}
 pub use Rattle.rhai_grammar.specs.RulesOfConstructs.{block_start, block_end, inside_by, block_of, braced, guard}
+pub use Rattle.rhai_grammar.specs.RulesOfConstructs.{guard_on}
 pub use Rattle.rhai_grammar.specs.RulesOfConstructs.{iterated, conditional, branch, catch_name, do_end_by}
 pub use Rattle.rhai_grammar.specs.RulesOfConstructs.{loop_names, construct}
 pub use Rattle.rhai_grammar.specs.RulesOfStatements.{var_name, initializer, definition, jump_of, evaluated, alias}
-pub use Rattle.rhai_grammar.specs.RulesOfStatements.{import_of, export_by, private_of, documented_by, loops}
+pub use Rattle.rhai_grammar.specs.RulesOfStatements.{documented, documented_by, export_by, fn_of, import_of, loops}
+pub use Rattle.rhai_grammar.specs.RulesOfStatements.{private_of}
 pub use Rattle.rhai_grammar.specs.RulesOfStatements.{statement_by, separated, after_one, statements}
-pub use Rattle.rhai_grammar.specs.RulesOfSwitches.{cases_of, case_guard, action_by, arm_end_by, arm_of}
-pub use Rattle.rhai_grammar.specs.RulesOfSwitches.{default_end_by, default_arm, arms_by}
+pub use Rattle.rhai_grammar.specs.RulesOfSwitches.{cases_of, case_guard, action_by, arm_end_by, arm_ends, arm_of}
+pub use Rattle.rhai_grammar.specs.RulesOfSwitches.{arm_on}
+pub use Rattle.rhai_grammar.specs.RulesOfSwitches.{default_end_by, default_ends, default_arm, arms_by}
 pub use Rattle.rhai_grammar.specs.RulesOfFunctions.{comments_of, named_head, function_head, parameters_by}
-pub use Rattle.rhai_grammar.specs.RulesOfFunctions.{parameter_by, function_body, function, function_statement}
-pub use Rattle.rhai_grammar.specs.RulesOfFunctions.{captured, closure_of, closure_by, closure_body}
+pub use Rattle.rhai_grammar.specs.RulesOfFunctions.{parameter_by, function_body, function, function_end, function_on}
+pub use Rattle.rhai_grammar.specs.RulesOfFunctions.{function_statement}
+pub use Rattle.rhai_grammar.specs.RulesOfFunctions.{captured, closure_added, closure_end, closure_of, closure_by}
+pub use Rattle.rhai_grammar.specs.RulesOfFunctions.{closure_body}
 pub use Rattle.rhai_grammar.specs.Productions.{tested}
 
 -- what is written where a goal is read

@@ -13,7 +13,7 @@ use Rattle.rhai_grammar.specs.Modules.{is_qualified, module_fault, qualified}
 use Rattle.rhai_grammar.specs.Verdicts.{bang_fault, no_path}
 use Rattle.rhai_grammar.specs.declared.role.Calling.{Calling}
 use Rattle.rhai_grammar.specs.declared.role.Linking.{Linking}
-use Rattle.rhai_grammar.specs.Productions.{Production, choose, due, faultless, give, if_next, name, never, part, raise}
+use Rattle.rhai_grammar.specs.Productions.{Production, checked, choose, due, give, if_next, name, never, part, raise}
 use Rattle.rhai_grammar.specs.Productions.{stop, tested, this, unless}
 use Rattle.rhai_grammar.specs.Causes as cause
 use Rattle.rhai_grammar.specs.declared.due.DueToken.TheVariants as due_token
@@ -44,11 +44,14 @@ path_next live x = if_next qualifies (part (goal.Path live x) give) (give x)
 abbrev pub path_of : Live → Node → Production Node
 path_of live x = this (λ _ at. name (λ n pos. path_next live (qualified live.imports x n pos)))
 
--- What calls a variable, if something does. Then its module has to be known.
+-- what calls a variable, whose module has to be known
+abbrev pub call_on : Context → Live → Node → Production Node
+call_on context live x = part (goal.Called context live (position_of x) (is_qualified x)) (λ call.
+    tested (call_tree x call.0 call.1) (module_fault context live x))
+
+-- what calls a variable, if something does
 abbrev pub call_of : Context → Live → Node → Production Node
-call_of context live x = if_next (λ token. is_variable x && calls token) (part (goal.Called context live
-    (position_of x) (is_qualified x)) (λ call. tested (call_tree x call.0 call.1) (module_fault context live x)))
-    (give x)
+call_of context live x = if_next (λ token. is_variable x && calls token) (call_on context live x) (give x)
 
 -- the path and the call of an operand that is a variable
 abbrev pub postfix_of : Context → Live → Node → Production Node
@@ -65,10 +68,13 @@ abbrev pub member_of : Context → Live → Production Node
 member_of context live = this (λ name at. if_next calls (part (goal.Called context live at false) (λ call.
     give (method_tree (text_of name) at call.0 call.1))) (property_of name at))
 
--- an index and the `]`; that it may index what is before it is tested in between
+-- after an index: that it may index what is before it is tested, and then the `]` comes
+abbrev pub index_on : Option Node → Node → Production Node
+index_on indexed x = checked (index_refusal indexed x) (due due_token.RightBracket (give x))
+
+-- an index and the `]`
 abbrev pub index_of : Context → Live → Option Node → Production Node
-index_of context live indexed = part (goal.Expression context live) (λ x. faultless (index_refusal indexed x)
-    (due due_token.RightBracket (give x)))
+index_of context live indexed = part (goal.Expression context live) (index_on indexed)
 
 -- a member after a dot, one level deeper, and the links after it
 abbrev pub dotted_by : Live → LinkSpot → Lexeme → Position → MemberRole → Production (List Link)

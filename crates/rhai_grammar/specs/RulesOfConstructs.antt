@@ -15,7 +15,7 @@ use Rattle.rhai_grammar.specs.Switches.{nothing_collected, switch_tree}
 use Rattle.rhai_grammar.specs.Causes.{refusal}
 use Rattle.rhai_grammar.specs.declared.role.Closing.TheVariants.{Brace}
 use Rattle.rhai_grammar.specs.declared.role.Construct.{Construct as Kind}
-use Rattle.rhai_grammar.specs.Productions.{Production, due, faultless, give, if_next, name, never, part, raise, take}
+use Rattle.rhai_grammar.specs.Productions.{Production, checked, due, give, if_next, name, never, part, raise, take}
 use Rattle.rhai_grammar.specs.Productions.{tested, this, unless}
 use Rattle.rhai_lower.specs.Nodes as node
 use Rattle.rhai_grammar.specs.Causes as cause
@@ -47,12 +47,15 @@ abbrev pub braced : Context → Live → Position → Production node.Block
 braced context live at = part goal.BlockStart (λ opening. raise context at (λ deeper.
     part (goal.Block deeper live opening) give))
 
--- an expression that may be a truth value and no assignment; it begins with no `{`
+-- after the expression of a guard: it may be a truth value, and is no assignment
+abbrev pub guard_on : Node → Production Node
+guard_on x = checked (guard_fault x) (if_next (is_due due_token.Equals) (never (λ _. no_assignment)) (give x))
+
+-- an expression that may be a guard; it begins with no `{`
 --     guard = expression
 abbrev pub guard : Context → Live → Production Node
 guard context live = if_next (is_due due_token.LeftBrace) (never (λ _. guard_expected))
-    (part (goal.Expression context live) (λ x. faultless (guard_fault x)
-    (if_next (is_due due_token.Equals) (never (λ _. no_assignment)) (give x))))
+    (part (goal.Expression context live) guard_on)
 
 -- what `for` goes over: an expression that begins with no `{` and may be iterated
 abbrev pub iterated : Context → Live → Production Node

@@ -1,5 +1,5 @@
 -- Productions of functions, their parameters, and closures.
-use Rattle.std.specs.Prelude.{Bool, List, None, Option, Some, ◌∷◌, if◌then◌else◌, ◌++◌, []}
+use Rattle.std.specs.Prelude.{Bool, List, None, Option, Some, ℕ, ◌∷◌, if◌then◌else◌, ◌++◌, []}
 use Rattle.rhai_lower.specs.Nodes.{Node, made_block, noop}
 use Rattle.rhai_lower.specs.declared.position.Position.{Position}
 use Rattle.rhai_lower.specs.Texts.{Text}
@@ -78,16 +78,23 @@ abbrev pub function : Context → List Comment → Position → Bool → Product
 function context comments at is_private = part goal.FunctionHead (λ head. part (goal.ParameterList head.1) (λ names.
     function_body context comments at is_private head names))
 
--- A function, at the global level alone. One more has to be allowed; it is one level deeper, with settings of its own;
--- and no function with its key is there when it ends.
+-- a function that ends, as a statement; no function with its key is there
+abbrev pub function_end : Live → Position → Ended → Production (node.Statement × Live)
+function_end live at ended = knows (is_new ended.key) (duplicate_of ended.key at) (adds ended (give (noop at, live)))
+
+-- one more function, if that is allowed; it is one level deeper, with settings of its own
+abbrev pub function_on : Context → Live → List Comment → Position → Bool → Production (node.Statement × Live)
+function_on context live comments at is_private = knows (may_begin context) (refusal cause.TooManyFunctions at)
+    (raise (in_function context live) at (λ deeper. part (goal.Function deeper comments at is_private)
+    (function_end live at)))
+
+-- a function, at the global level alone
 --     function = { COMMENT } [ "private" ] "fn" [ type "." ] NAME parameters block
 abbrev pub function_statement : Context → Live → List Comment → Position → Position → Bool
     → Production (node.Statement × Live)
 function_statement context live comments first at is_private =
-    must (is_global context) (refusal cause.WrongFnDefinition first) (knows (may_begin context)
-    (refusal cause.TooManyFunctions at) (raise (in_function context live) at (λ deeper.
-    part (goal.Function deeper comments at is_private) (λ ended. knows (is_new ended.key) (duplicate_of ended.key at)
-    (adds ended (give (noop at, live)))))))
+    must (is_global context) (refusal cause.WrongFnDefinition first)
+    (function_on context live comments at is_private)
 
 -- the names that a closure captures, used where it ends, one after the other
 abbrev pub captured : {A : Type 0} → List Use → Context → Live → Production A → Production A
@@ -96,14 +103,21 @@ captured (u ∷ us) context live rest = captures (λ fs. may_capture context liv
     (refusal (cause.VariableUndefined u.name) u.at) (λ fs. is_captured context live u.name fs) u
     (captured us context live rest)
 
+-- the function of a closure, whose value this is; no function with its key is there
+abbrev pub closure_added : Position → Ended → Node → Production Node
+closure_added at ended x = knows (is_new ended.key) (duplicate_of ended.key at) (adds ended (give x))
+
+-- the end of a closure of these parameters, with this body, which captured these names; so many had ended before it
+abbrev pub closure_end : Context → Live → Position → List Text → node.Statement → List Use → (number : ℕ)
+    → Production Node
+closure_end context live at names body us number = captured us context live (closure_added at
+    (ended_closure number us names (made_block body)) (closure_node at number us names live))
+
 -- A closure of these parameters: a body, one level deeper and in a closure of its own, and then the names that were
--- captured there. No function with its key is there when it ends; otherwise that is refused at its first token.
+-- captured there. Where a function with its key is there when it ends, that is refused at its first token.
 abbrev pub closure_of : Context → Live → Position → List Text → Production Node
 closure_of context live at names = raise (in_closure context live) at (λ deeper.
-    apart (goal.ClosureBody deeper (parameters_live names)) (λ f us n.
-    captured us context live (knows (is_new (ended_closure n us names (made_block f)).key)
-    (duplicate_of (ended_closure n us names (made_block f)).key at) (adds (ended_closure n us names (made_block f))
-    (give (closure_node at n us names live))))))
+    apart (goal.ClosureBody deeper (parameters_live names)) (closure_end context live at names))
 
 -- a closure after its first token: without parameters after `||`, or with those up to the next `|`
 --     closure = ( "||" | "|" [ list(NAME) ] "|" ) [ statement ]

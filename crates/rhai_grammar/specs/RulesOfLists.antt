@@ -50,20 +50,28 @@ element_by context live opening before place.Item = raise context opening (λ de
     (with_node before x)) give) (give (with_node before x)))))
 element_by context live opening before place.Nothing = never (no_item context.sizes.array)
 
+-- after the name of a property: a colon, and room for one more
+abbrev pub key_on : Context → Properties → Text → Position → Production (Option (Text × Position))
+key_on context before key at = due due_token.Colon (
+    if_next (λ _. full context.sizes.map (property_count before)) (never (λ _. too_many_fields context.sizes.map))
+    (give (Some (key, at))))
+
 -- the `}` of an object map, or the name of one more property and its colon; no name stands twice
 --     key = NAME | STRING
 abbrev pub key_by : Context → Properties → KeyRole → Production (Option (Text × Position))
 key_by context before FieldsEnd = this (λ _ at. give None)
 key_by context before (AKey key) = this (λ _ at. unless (has_key key before)
-    (refusal (cause.DuplicatedProperty key) at) (due due_token.Colon (
-    if_next (λ _. full context.sizes.map (property_count before)) (never (λ _. too_many_fields context.sizes.map))
-    (give (Some (key, at))))))
+    (refusal (cause.DuplicatedProperty key) at) (key_on context before key at))
 key_by context before (NoKey why) = never (λ _. why)
+
+-- after the value of a property: more of them after a comma, or the `}`
+abbrev pub field_next : Context → Live → Position → Properties → Production Properties
+field_next context live opening fields = choose (view.PartOf lists.Map) (parted lists.Map
+    (part (goal.Fields context live opening fields) give) (give fields))
 
 -- the value of a property, one level deeper, and the properties after it
 --     map = "#{" [ list(key ":" expression) ] "}"
 abbrev pub field_by : Context → Live → Position → Properties → Option (Text × Position) → Production Properties
 field_by context live opening before None = give before
 field_by context live opening before (Some key) = raise context opening (λ deeper. part (goal.Expression deeper live)
-    (λ x. choose (view.PartOf lists.Map) (parted lists.Map (part (goal.Fields context live opening
-    (with_property before key.0 key.1 x)) give) (give (with_property before key.0 key.1 x)))))
+    (λ x. field_next context live opening (with_property before key.0 key.1 x)))

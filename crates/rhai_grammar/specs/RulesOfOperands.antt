@@ -4,7 +4,7 @@ use Rattle.rhai_lower.specs.Nodes.{Node, Nodes, array, block_value, braces, inte
 use Rattle.rhai_lower.specs.Nodes.{no_properties, object_map, position_of, this as this_node, unit, with_node}
 use Rattle.rhai_lower.specs.declared.position.Position.{Position}
 use Rattle.rhai_lower.specs.Texts.{Text}
-use Rattle.rhai_lower.specs.Lexemes.{text_of}
+use Rattle.rhai_lower.specs.Lexemes.{Lexeme, text_of}
 use Rattle.rhai_grammar.specs.Contexts.{Context, Live, below_global, in_block}
 use Rattle.rhai_grammar.specs.Strengths.{Follower, Operator, Other, Unknown, continues}
 use Rattle.rhai_grammar.specs.Interpolations.{added_text}
@@ -37,6 +37,13 @@ word_of context word at = if_next (λ token. may_be_called word && calls token) 
     (refusal (cause.BadInput (cause.ImproperSymbol word)) at) (give (this_node at))
     else stop (refusal (cause.Reserved word) at))
 
+-- After a name: it is used, unless the next token calls it or makes it part of a path.
+abbrev pub name_of : Context → Live → Text → Position → Production Node
+name_of context live name at = uses excludes_use
+    (λ fs following. excludes_use following || may_use context live fs name) (refusal (cause.VariableUndefined name) at)
+    (λ fs following. captures_use context live name fs following) (record { name = name; at = at })
+    (λ excluded. give (name_tree live.slots excluded name at))
+
 -- a primary, by what its first token begins
 --     ZERO =
 --     primary = value | NAME | WORD | "(" expression ")" | array | map | string
@@ -44,11 +51,7 @@ word_of context word at = if_next (λ token. may_be_called word && calls token) 
 --     value = "()" | INTEGER | CHARACTER | STRING | "true" | "false"
 abbrev pub primary_by : Context → Live → Beginning → Production Node
 primary_by context live begin.Value = this (λ token at. give (value_of token at))
-primary_by context live begin.Name = this (λ token at. uses excludes_use
-    (λ fs following. excludes_use following || may_use context live fs (text_of token))
-    (refusal (cause.VariableUndefined (text_of token)) at)
-    (λ fs following. captures_use context live (text_of token) fs following) (record { name = text_of token; at = at })
-    (λ excluded. give (name_tree live.slots excluded (text_of token) at)))
+primary_by context live begin.Name = this (λ token at. name_of context live (text_of token) at)
 primary_by context live begin.Word = this (λ token at. word_of context (text_of token) at)
 primary_by context live begin.Group = this (λ _ at. raise context at (λ deeper. part (goal.Expression deeper live)
     (λ x. due due_token.RightParen (give x))))
@@ -67,15 +70,22 @@ primary_by context live (begin.Closure by) = if may_be_closure context by
 primary_by context live begin.Range = here (λ at. give (integer (pos 0) at))
 primary_by context live _ = never no_operand
 
--- A sign and its operand, one level deeper; or a primary with what follows it: a call, links, or none of these. That
--- its module is known is tested after the last link.
+-- what a sign makes of its operand, if it may stand there
+abbrev pub sign_on : Lexeme → Position → Node → Production Node
+sign_on token at x = must (sign_holds token x) (malformed at x) (give (signed token at x))
+
+-- What follows a primary: a call, links, or none of these. That its module is known is tested after the last link.
+abbrev pub operand_ends : Context → Live → Node → Production Node
+operand_ends context live x = part (goal.Postfix context live x) (λ y.
+    part (goal.Links live (spot_after_operand context y)) (λ ls. tested (chained y ls) (module_fault context live y)))
+
+-- a sign and its operand, one level deeper; or a primary with what follows it
 --     operand = { sign } ( ZERO | primary { "::" NAME } [ [ "!" ] arguments ] { link } )
 --     sign = "-" | "+" | "!"
 abbrev pub operand_by : Context → Live → Beginning → Production Node
 operand_by context live begin.Sign = this (λ token at. raise context at (λ deeper. part (goal.Operand deeper live)
-    (λ x. must (sign_holds token x) (malformed at x) (give (signed token at x)))))
-operand_by context live _ = part (goal.Primary context live) (λ x. part (goal.Postfix context live x) (λ y.
-    part (goal.Links live (spot_after_operand context y)) (λ ls. tested (chained y ls) (module_fault context live y))))
+    (sign_on token at)))
+operand_by context live _ = part (goal.Primary context live) (operand_ends context live)
 
 -- what stands after an operator: nothing after a range, a jump after `??`, or an operand
 --     right = operand | jump | OMITTED
@@ -92,20 +102,29 @@ follower_by (Operator n right) = give (Some (n, right))
 follower_by (Unknown t) = never (λ _. cause.UnknownOperator t)
 follower_by Other = give None
 
--- An operator that goes on with a run, and its right operand with all that groups more tightly, one level deeper. Then
--- the operands are tested, and the run goes on.
-abbrev pub binary_on : Context → Live → Position → ℕ → Node → ℕ × Bool → Production Node
-binary_on context live at parent lhs op = this (λ token pos. part (goal.RightOperand context live (role_after token))
-    (λ y. part (goal.NextOperator context.filter) (λ next. raise context at (λ deeper.
-    part (goal.BinaryOp deeper live (position_of y) op.0 y) (λ r.
-    must (boolean_holds token lhs) (mismatched lhs) (must (boolean_holds token r) (mismatched r)
-    (part (goal.BinaryOp deeper live pos parent (operator_tree token pos lhs r)) give)))))))
+-- after an operator and what stands on its right: both sides are tested, and the run goes on
+abbrev pub binary_next : Context → Live → ℕ → Node → Lexeme → Position → Node → Production Node
+binary_next context live parent lhs token op_at rhs = must (boolean_holds token lhs) (mismatched lhs)
+    (must (boolean_holds token rhs) (mismatched rhs)
+    (part (goal.BinaryOp context live op_at parent (operator_tree token op_at lhs rhs)) give))
+
+-- after an operator of this strength and its right operand: all that groups more tightly, one level deeper
+abbrev pub binary_right : Context → Live → Position → ℕ → Node → ℕ → Lexeme → Position → Node → Production Node
+binary_right context live at parent lhs strength token op_at rhs = part (goal.NextOperator context.filter) (λ next.
+    raise context at (λ deeper. part (goal.BinaryOp deeper live (position_of rhs) strength rhs)
+    (binary_next deeper live parent lhs token op_at)))
+
+-- an operator of this strength that goes on with a run, and what stands on its right
+abbrev pub binary_on : Context → Live → Position → ℕ → Node → ℕ → Production Node
+binary_on context live at parent lhs strength = this (λ token op_at.
+    part (goal.RightOperand context live (role_after token))
+    (binary_right context live at parent lhs strength token op_at))
 
 -- what follows an operand in a run of some strength: an operator that goes on with it, or what ends it
 abbrev pub binary_of : Context → Live → Position → ℕ → Node → Option (ℕ × Bool) → Production Node
 binary_of context live at parent lhs None = give lhs
 binary_of context live at parent lhs (Some op) = if continues parent op.0 op.1
-    then binary_on context live at parent lhs op else give lhs
+    then binary_on context live at parent lhs op.0 else give lhs
 
 -- An operand, and the operators after it: one level deeper, which is refused at its first token. So expressions are the
 -- runs of operators (`Runs`): the laws `expressions_are_runs` and `runs_are_expressions` say it in both directions.

@@ -85,6 +85,10 @@ export_by context live at None = name (λ n n_at. part goal.Alias (λ other. giv
   exported n (unwrap_or other []) live,
 )))
 
+-- a function after its `fn`
+abbrev pub fn_of : Context → Live → List Comment → Position → Production (node.Statement × Live)
+fn_of context live comments at = part (goal.FunctionStatement context live comments at at false) give
+
 -- `fn` and a function, after `private`
 abbrev pub private_of : Context → Live → List Comment → Position → Production (node.Statement × Live)
 private_of context live comments first = take (is_due due_token.Fn) (not_due due_token.Fn) (λ _ at.
@@ -93,10 +97,15 @@ private_of context live comments first = take (is_due due_token.Fn) (not_due due
 -- what doc comments belong to: a function, which may be private
 abbrev pub documented_by : Context → Live → List Comment → Position → StatementStart
     → Production (node.Statement × Live)
-documented_by context live comments first start.Function = this (λ _ at.
-    part (goal.FunctionStatement context live comments at at false) give)
+documented_by context live comments first start.Function = this (λ _ at. fn_of context live comments at)
 documented_by context live comments first start.Private = this (λ _ at. private_of context live comments at)
 documented_by context live comments first _ = stop (refusal cause.WrongDocComment first)
+
+-- doc comments, after the first one, and the function that they belong to; at the global level alone
+abbrev pub documented : Context → Live → Comment → Production (node.Statement × Live)
+documented context live first = must (is_global context) (refusal cause.WrongDocComment first.at)
+    (part (goal.Comments (first ∷ [])) (λ comments. choose (view.StartOf context)
+    (documented_by context live comments first.at)))
 
 -- a jump that is allowed in loops alone
 abbrev pub loops : {A : Type 0} → Context → Position → Production A → Production A
@@ -125,11 +134,9 @@ statement_by context live start.Import = this (λ _ at. raise context at (λ dee
     part (goal.Import inside live at) give)))
 statement_by context live start.Export = this (λ _ at. must (is_global context) (refusal cause.WrongExport at)
     (raise context at (λ deeper. part (goal.Export deeper live at) give)))
-statement_by context live start.Function = this (λ _ at. part (goal.FunctionStatement context live [] at at false) give)
+statement_by context live start.Function = this (λ _ at. fn_of context live [] at)
 statement_by context live start.Private = this (λ _ at. private_of context live [] at)
-statement_by context live start.Comment = this (λ token at. must (is_global context) (refusal cause.WrongDocComment at)
-    (part (goal.Comments (comment_of token at ∷ [])) (λ comments. choose (view.StartOf context)
-    (documented_by context live comments at))))
+statement_by context live start.Comment = this (λ token at. documented context live (comment_of token at))
 statement_by context live start.Expression = here (λ at. raise context at (λ deeper.
     part (goal.ExprStatement deeper live) (λ f. give (f, live))))
 

@@ -12,7 +12,7 @@ use Rattle.rhai_grammar.specs.CommaLists.{not_after}
 use Rattle.rhai_grammar.specs.Causes.{refusal}
 use Rattle.rhai_grammar.specs.declared.list.AfterPart.{AfterPart}
 use Rattle.rhai_grammar.specs.declared.role.ArmRole.{ArmRole}
-use Rattle.rhai_grammar.specs.Productions.{Production, due, faultless, give, if_next, never, part, stop, this}
+use Rattle.rhai_grammar.specs.Productions.{Production, checked, due, give, if_next, never, part, stop, this}
 use Rattle.rhai_grammar.specs.Causes as cause
 use Rattle.rhai_grammar.specs.declared.due.DueToken.TheVariants as due_token
 use Rattle.rhai_grammar.specs.declared.list.AfterPart.TheVariants as after
@@ -44,12 +44,19 @@ arm_end_by itself after.Comma = this (λ _ at. give tt)
 arm_end_by itself after.Close = give tt
 arm_end_by itself after.Nothing = if itself then give tt else never (not_after lists.Arms)
 
--- Cases, a guard, and what is done there. The cases are tested after that, and then the end of the arm.
+-- the end of an arm of these parts
+abbrev pub arm_ends : Nodes → Node → Node × Bool → Production (Nodes × Node × Node)
+arm_ends xs guard does = part (goal.ArmEnd does.1) (λ end. give (xs, guard, does.0))
+
+-- after what an arm does: its cases are tested, and then its end comes
+abbrev pub arm_on : Collected → Nodes → Node → Node × Bool → Production (Nodes × Node × Node)
+arm_on before xs guard does = checked (arm_fault before xs) (arm_ends xs guard does)
+
+-- cases, a guard, and what is done there
 --     arm = case { "|" case } [ "if" guard ] "=>" action
 abbrev pub arm_of : Context → Live → Collected → Production (Nodes × Node × Node)
 arm_of context live before = part (goal.Cases context live no_nodes) (λ xs. part (goal.CaseGuard context live)
-    (λ guard. due due_token.DoubleArrow (part (goal.Action context live) (λ does. faultless (arm_fault before xs)
-    (part (goal.ArmEnd does.1) (λ end. give (xs, guard, does.0)))))))
+    (λ guard. due due_token.DoubleArrow (part (goal.Action context live) (arm_on before xs guard))))
 
 -- the `}` after the default arm; another arm there is refused at the `_`
 abbrev pub default_end_by : Position → ArmRole → Production (Unit {0})
@@ -57,11 +64,14 @@ default_end_by default arm.Close = this (λ _ at. give tt)
 default_end_by default arm.Nothing = never (missing (codes "}"))
 default_end_by default _ = stop (refusal cause.WrongSwitchDefaultCase default)
 
+-- the end of the default arm, which does this, and the `}`
+abbrev pub default_ends : Position → Node × Bool → Production Node
+default_ends default does = part (goal.ArmEnd does.1) (λ end. part (goal.DefaultEnd default) (λ close. give does.0))
+
 -- the default arm after its `_`; it has no guard and is the last
 abbrev pub default_arm : Context → Live → Position → Production Node
 default_arm context live default = if_next (is_due due_token.If) (never (λ _. cause.WrongSwitchCaseCondition))
-    (due due_token.DoubleArrow (part (goal.Action context live) (λ does. part (goal.ArmEnd does.1) (λ end.
-    part (goal.DefaultEnd default) (λ close. give does.0)))))
+    (due due_token.DoubleArrow (part (goal.Action context live) (default_ends default)))
 
 -- an arm with cases, or the default arm, or the `}`
 abbrev pub arms_by : Context → Live → Collected → ArmRole → Production Collected

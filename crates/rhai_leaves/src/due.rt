@@ -1,5 +1,5 @@
-//! `match_token` and the like: tokens that are due. Some are taken, and some are passed if they are there. In a call
-//! arguments are due, after a `!` too, which a name with a path may not have. The end mark is here too.
+//! `match_token` and the like: tokens that are due. Some are taken, and some are passed if they are there. After the
+//! `!` of a call arguments are due, which a name with a path may not have. The end mark is here too.
 
 ghost use Rattle.std.specs.Prelude.{◌≡◌, IfErr, IfOk, IsTrue, OnOk, codes, false, true};
 ghost use Rattle.rhai_lower.specs.Lexemes.{lexeme};
@@ -11,7 +11,6 @@ ghost use Rattle.rhai_grammar.specs.Cursors.{next_item, cursor_of, after_peek};
 ghost use Rattle.rhai_grammar.specs.Delivered.{is_end, is_memory};
 ghost use Rattle.rhai_grammar.specs.DueTokens.{is_due, not_due, text_of_due};
 ghost use Rattle.rhai_grammar.specs.Verdicts.{bang_fault};
-ghost use Rattle.rhai_grammar.specs.declared.role.Calling.TheVariants.{List, Pair};
 ghost use Rattle.rhai_leaves.specs.DueTokens.{Passes, Tries};
 ghost use Rattle.rhai_leaves.specs.Takes.{Looks, Takes, TakesIf};
 
@@ -130,11 +129,12 @@ pub fn pass_token(input: &mut TokenStream, due: DueToken) -> Result<bool, AllocE
     Ok(false)
 }
 
-// Whether the arguments that are due, which begin with a token at `pos`, are a list; else they are an empty pair. Any
-// other token is refused.
-fn arguments_at(alloc: Global, token: &Token, pos: Position) -> ParseResult<bool>
-    ensures listed { IfOk result (λ list. (IsTrue list → calling (lexeme token.now) ≡ List)
-        × (list ≡ false → calling (lexeme token.now) ≡ Pair)) }
+// What a `(` of arguments is due for.
+const ARGUMENTS: &str = "to begin the arguments of a call";
+
+// How a token at `pos` begins the arguments that are due; any other is refused.
+fn arguments_at(alloc: Global, token: &Token, pos: Position) -> ParseResult<Calling>
+    ensures listed { IfOk result (λ c. (c ≡ calling (lexeme token.now)) × (is_list c ≡ true)) }
     ensures more { OnOk result (is_end (lexeme token.now) ≡ false) }
     ensures refused { IfErr result (λ e. is_for_memory e ≡ false
         → (is_list (calling (lexeme token.now)) ≡ false)
@@ -142,20 +142,15 @@ fn arguments_at(alloc: Global, token: &Token, pos: Position) -> ParseResult<bool
     ensures nowhere { IfErr result MemoryIsNowhere }
 {
     match what_calls(token) {
-        Calling::Pair => Ok(false),
-        Calling::List => Ok(true),
-        Calling::Bang | Calling::Nothing => {
-            let note = "to begin the arguments of a call";
-            Err(missing(alloc, "(", note, token, pos))
-        }
+        Calling::Pair => Ok(Calling::Pair),
+        Calling::List => Ok(Calling::List),
+        Calling::Bang | Calling::Nothing => Err(missing(alloc, "(", ARGUMENTS, token, pos)),
     }
 }
 
-/// Whether the arguments that are due are a list; else they are an empty pair. Their token stays. Any other is refused
-/// as a missing `(`.
-pub fn arguments_due(alloc: Global, input: &mut TokenStream) -> ParseResult<bool>
-    ensures listed { IfOk result (λ list. (IsTrue list → calling (next_item (cursor_of input.old)).lexeme ≡ List)
-        × (list ≡ false → calling (next_item (cursor_of input.old)).lexeme ≡ Pair)) }
+/// Looks at the arguments that are due after the `!` of a call; their token stays.
+pub fn arguments_due(alloc: Global, input: &mut TokenStream) -> ParseResult<Calling>
+    ensures listed { IfOk result (λ c. (c ≡ calling (next_item (cursor_of input.old)).lexeme) × (is_list c ≡ true)) }
     ensures more { OnOk result (is_end (next_item (cursor_of input.old)).lexeme ≡ false) }
     ensures refused { IfErr result (λ e. is_for_memory e ≡ false
         → (is_list (calling (next_item (cursor_of input.old)).lexeme) ≡ false)
@@ -167,6 +162,22 @@ pub fn arguments_due(alloc: Global, input: &mut TokenStream) -> ParseResult<bool
 {
     let (token, pos) = peek(input)?;
     arguments_at(alloc, token, *pos)
+}
+
+/// The refusal of a token, which stays, where the arguments of a call are due: a missing `(`; if memory runs out,
+/// `OutOfMemory`.
+pub fn no_arguments(alloc: Global, input: &mut TokenStream) -> ParseError
+    ensures refused { is_for_memory result ≡ false
+        → (is_memory (next_item (cursor_of input.old)).lexeme ≡ false)
+        × (refusal_of result ≡ refusal (missing (codes "(") (next_item (cursor_of input.old)).lexeme)
+        (next_item (cursor_of input.old)).at) }
+    ensures nowhere { MemoryIsNowhere result }
+    ensures after { cursor_of input.new ≡ after_peek (cursor_of input.old) }
+{
+    match peek(input) {
+        Ok((token, pos)) => missing(alloc, "(", ARGUMENTS, token, *pos),
+        Err(error) => ParseError::from(error),
+    }
 }
 
 // Why the `!` of a call is refused whose name has a path; the next token, which stays, is behind it.

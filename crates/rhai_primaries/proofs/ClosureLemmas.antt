@@ -10,7 +10,7 @@ use Rattle.rhai_grammar.specs.Closures.{in_closure}
 use Rattle.rhai_grammar.specs.Contexts.{Context, Known, Live, may_raise, level_up}
 use Rattle.rhai_grammar.specs.Cursors.{left}
 use Rattle.rhai_grammar.specs.Functions.{duplicate_of, is_new, may_begin, parameters_live}
-use Rattle.rhai_grammar.specs.Libraries.{Ended}
+use Rattle.rhai_grammar.specs.Libraries.{Ended, closure_count}
 use Rattle.rhai_grammar.specs.Modules.{is_captured, may_capture}
 use Rattle.rhai_grammar.specs.Uses.{Use, noted}
 use Rattle.rhai_grammar.specs.Settings as settings
@@ -21,7 +21,9 @@ use Rattle.rhai_grammar.specs.declared.filter.ExprFilter.TheVariants.{All}
 use Rattle.rhai_grammar.specs.declared.list.CommaList.TheVariants as lists
 use Rattle.rhai_grammar.specs.declared.role.Bars.{Bars}
 use Rattle.rhai_grammar.specs.declared.role.Bars.TheVariants as bars
-use Rattle.rhai_reading.specs.Reading.{Add, CallApart, Closure, Ret, closure_added, ClosureBody, Fail, Know, Note, Parameters, Prog, captured_on, closure_by, closure_end, closure_on}
+use Rattle.rhai_grammar.specs.Productions.{Production, apart}
+use Rattle.rhai_grammar.specs.Rules.{captured, closure_added, closure_by, closure_end, closure_of}
+use Rattle.rhai_reading.specs.Reading.{Add, Closure, Ret, ClosureBody, Fail, Note, Parameters, run}
 use Rattle.rhai_reading.specs.Running as R
 use Rattle.rhai_reading.specs.Running.{Caller, Done, Fails, Gives, adding, Out, Progress, and_then, exec, guarded, nested, result_of, with_captured}
 use Rattle.rhai_reading.proofs.Steps.{guarded_is, nested_is, step_closure}
@@ -55,10 +57,10 @@ context_inside engine outer inner here deeper filtered knows begun raised =
 
 -- what follows the parameters
 abbrev pub after : (c : Context) (w : Live) (at : Position) (by : Bars) (s : Progress) → List Text → Progress → Out Node
-after c w at by s names t = exec (guarded (Closure c w at by) s) (closure_on c w at names) t
+after c w at by s names t = exec (guarded (Closure c w at by) s) (run (closure_of c w at names)) t
 
 begin_by : (c : Context) (w : Live) (at : Position) (by : Bars) (s : Progress)
-    → exec (guarded (Closure c w at by) s) (closure_by c w at by) s ≡ and_then (closure_parameters by s) (after c w at by s)
+    → exec (guarded (Closure c w at by) s) (run (closure_by c w at by)) s ≡ and_then (closure_parameters by s) (after c w at by s)
 begin_by c w at bars.Pair s = refl
 begin_by c w at bars.List s =
     ap (λ o. and_then o (after c w at bars.List s))
@@ -69,7 +71,7 @@ pub begun_runs : (c : Context) (w : Live) (at : Position) (by : Bars) (s : Progr
     → result_of (Closure c w at by) s ≡ and_then (closure_parameters by s) (after c w at by s)
 begun_runs c w at by s fits =
     step_closure c w at by s
-    ∙ ap (λ b. exec (guarded (Closure c w at by) s) (if b then closure_by c w at by else Fail (refusal cause.TooManyFunctions at)) s) fits
+    ∙ ap (λ b. exec (guarded (Closure c w at by) s) (if b then run (closure_by c w at by) else Fail (refusal cause.TooManyFunctions at)) s) fits
     ∙ begin_by c w at by s
 
 -- A closure has parameters, and its level may be raised, in a context of its own with what is live there.
@@ -84,7 +86,7 @@ pub record Begun (c : Context) (w : Live) (at : Position) (by : Bars) (d : Conte
 -- what follows the body
 abbrev pub ends : (c : Context) (w : Live) (at : Position) (by : Bars) (names : List Text) (s t : Progress) → node.Statement → Progress → Out Node
 ends c w at by names s t f u =
-    exec (guarded (Closure c w at by) s) (closure_end c w at names f u.captured u.library) (with_captured t.captured u)
+    exec (guarded (Closure c w at by) s) (run (closure_end c w at names f u.captured (closure_count u.library))) (with_captured t.captured u)
 
 pub body_runs : (c : Context) (w : Live) (at : Position) (by : Bars) (d : Context) (l : Live) (names : List Text) (s t : Progress)
     → Begun c w at by d l names s t
@@ -92,10 +94,10 @@ pub body_runs : (c : Context) (w : Live) (at : Position) (by : Bars) (d : Contex
     ≡ and_then (nested (result_of (ClosureBody d l)) (with_captured [] t)) (ends c w at by names s t)
 body_runs c w at by d l names s t h =
     let call = guarded (Closure c w at by) s in
-    let apart = CallApart (ClosureBody (level_up (in_closure c w)) (parameters_live names)) (λ f us. Know (closure_end c w at names f us)) in
+    let inside = run (apart (ClosureBody (level_up (in_closure c w)) (parameters_live names)) (closure_end c w at names)) in
     begun_runs c w at by s h.fits
     ∙ ap (λ o. and_then o (after c w at by s)) h.parameters
-    ∙ ap (λ b. exec call (if b then apart else Fail (refusal cause.ExprTooDeep at)) t) h.room
+    ∙ ap (λ b. exec call (if b then inside else Fail (refusal cause.ExprTooDeep at)) t) h.room
     ∙ ap (λ o. and_then o (ends c w at by names s t)) (
     nested_is (Closure c w at by) s (ClosureBody (level_up (in_closure c w)) (parameters_live names)) (with_captured [] t)
     (omega (arith, h.shorter))
@@ -114,10 +116,10 @@ pub raise_fails : (c : Context) (w : Live) (at : Position) (by : Bars) (names : 
     → result_of (Closure c w at by) s ≡ R.Refused (refusal cause.ExprTooDeep at) t
 raise_fails c w at by names s t fits parameters room =
     let call = guarded (Closure c w at by) s in
-    let apart = CallApart (ClosureBody (level_up (in_closure c w)) (parameters_live names)) (λ f us. Know (closure_end c w at names f us)) in
+    let inside = run (apart (ClosureBody (level_up (in_closure c w)) (parameters_live names)) (closure_end c w at names)) in
     begun_runs c w at by s fits
     ∙ ap (λ o. and_then o (after c w at by s)) parameters
-    ∙ ap (λ b. exec call (if b then apart else Fail (refusal cause.ExprTooDeep at)) t) room
+    ∙ ap (λ b. exec call (if b then inside else Fail (refusal cause.ExprTooDeep at)) t) room
 
 -- the body is refused
 pub body_fails : (c : Context) (w : Live) (at : Position) (by : Bars) (d : Context) (l : Live) (names : List Text) (s t : Progress)
@@ -139,38 +141,38 @@ body_gives view c w at by d l names s t h f u done r v gives =
 -- ---- the names that a closure captures
 
 -- one of them is used
-pub captured_more : (call : Caller) (c : Context) (w : Live) (u : Use) (us : List Use) (p : Prog Node) (s t : Progress) → may_capture c w u.name s.library ≡ true
+pub captured_more : (call : Caller) (c : Context) (w : Live) (u : Use) (us : List Use) (p : Production Node) (s t : Progress) → may_capture c w u.name s.library ≡ true
     → t ≡ with_captured (noted (is_captured c w u.name s.library) u s.captured) s
-    → exec call (captured_on (u ∷ us) c w p) s ≡ exec call (captured_on us c w p) t
+    → exec call (run (captured (u ∷ us) c w p)) s ≡ exec call (run (captured us c w p)) t
 captured_more call c w u us p s t may is =
-    ap (λ b. exec call (if b then Note (is_captured c w u.name s.library) u (captured_on us c w p) else Fail (refusal (cause.VariableUndefined u.name) u.at)) s) may
-    ∙ ap (exec call (captured_on us c w p)) (sym is)
+    ap (λ b. exec call (if b then Note (is_captured c w u.name s.library) u (run (captured us c w p)) else Fail (refusal (cause.VariableUndefined u.name) u.at)) s) may
+    ∙ ap (exec call (run (captured us c w p))) (sym is)
 
 -- one of them is refused
-pub captured_refused : (call : Caller) (c : Context) (w : Live) (u : Use) (us : List Use) (p : Prog Node) (s : Progress) → may_capture c w u.name s.library ≡ false
-    → exec call (captured_on (u ∷ us) c w p) s ≡ R.Refused (refusal (cause.VariableUndefined u.name) u.at) s
+pub captured_refused : (call : Caller) (c : Context) (w : Live) (u : Use) (us : List Use) (p : Production Node) (s : Progress) → may_capture c w u.name s.library ≡ false
+    → exec call (run (captured (u ∷ us) c w p)) s ≡ R.Refused (refusal (cause.VariableUndefined u.name) u.at) s
 captured_refused call c w u us p s may =
-    ap (λ b. exec call (if b then Note (is_captured c w u.name s.library) u (captured_on us c w p) else Fail (refusal (cause.VariableUndefined u.name) u.at)) s) may
+    ap (λ b. exec call (if b then Note (is_captured c w u.name s.library) u (run (captured us c w p)) else Fail (refusal (cause.VariableUndefined u.name) u.at)) s) may
 
 -- ---- the end
 
 -- what follows the body, by what the code has
 pub ends_gives : {X : Type 0} (view : X → Node) (c : Context) (w : Live) (at : Position) (by : Bars) (names : List Text) (s t : Progress) (f : node.Statement) (u : Progress)
     → (us : List Use) (x : Progress) (r : Result X ParseError) (v : Progress) → us ≡ u.captured → x ≡ with_captured t.captured u
-    → Gives view (exec (guarded (Closure c w at by) s) (closure_end c w at names f us x.library) x) r v
+    → Gives view (exec (guarded (Closure c w at by) s) (run (closure_end c w at names f us (closure_count x.library))) x) r v
     → Gives view (ends c w at by names s t f u) r v
-ends_gives view c w at by names s t f u us x r v captured back gives =
+ends_gives view c w at by names s t f u us x r v same back gives =
     let call = guarded (Closure c w at by) s in
     gives_so view r v (
-    ap (λ n. exec call (closure_end c w at names f n u.library) (with_captured t.captured u)) (sym captured)
-    ∙ ap (λ (y : Progress). exec call (closure_end c w at names f us y.library) y) (sym back)) gives
+    ap (λ n. exec call (run (closure_end c w at names f n (closure_count u.library))) (with_captured t.captured u)) (sym same)
+    ∙ ap (λ (y : Progress). exec call (run (closure_end c w at names f us (closure_count y.library))) y) (sym back)) gives
 
 -- the function joins the others
 pub added : (call : Caller) (at : Position) (e : Ended) (x : Node) (t : Progress) → is_new e.key t.library ≡ true
-    → exec call (Know (closure_added at e x)) t ≡ Done x (adding e t)
+    → exec call (run (closure_added at e x)) t ≡ Done x (adding e t)
 added call at e x t new = ap (λ b. exec call (if b then Add e (Ret x) else Fail (duplicate_of e.key at)) t) new
 
 -- another function has its key
 pub not_added : (call : Caller) (at : Position) (e : Ended) (x : Node) (t : Progress) → is_new e.key t.library ≡ false
-    → exec call (Know (closure_added at e x)) t ≡ R.Refused (duplicate_of e.key at) t
+    → exec call (run (closure_added at e x)) t ≡ R.Refused (duplicate_of e.key at) t
 not_added call at e x t there = ap (λ b. exec call (if b then Add e (Ret x) else Fail (duplicate_of e.key at)) t) there

@@ -9,7 +9,9 @@ use Rattle.rhai_grammar.specs.declared.list.CommaList.TheVariants as lists
 use Rattle.rhai_grammar.specs.declared.role.Bars.{Bars}
 use Rattle.rhai_grammar.specs.declared.role.Bars.TheVariants as bars
 use Rattle.rhai_reading.specs.Reading as reading
-use Rattle.rhai_reading.specs.Reading.{Goal, Prog, captured_on}
+use Rattle.rhai_grammar.specs.Productions.{Production}
+use Rattle.rhai_grammar.specs.Rules.{captured}
+use Rattle.rhai_reading.specs.Reading.{Goal, run}
 use Rattle.rhai_reading.specs.Running.{Caller, Done, Fails, Out, Progress, exec, result_of}
 use Rattle.rhai_base.specs.Frames.{FrameValue}
 use Rattle.rhai_base.specs.declared.settings.ParseSettings.{ParseSettings}
@@ -32,5 +34,7 @@ closure_parameters bars.List s = result_of (reading.Parameters lists.ClosurePara
 
 -- The names that a closure captures are used around it, whatever follows; or one of them is refused.
 abbrev pub UsesAll : {X : Type 0} → List Use → Context → Live → Progress → Result X ParseError → Progress → Type 0
-UsesAll us c w s (Ok x) t = (call : Caller) (p : Prog Node) → exec call (captured_on us c w p) s ≡ exec call p t
-UsesAll us c w s (Err e) t = (call : Caller) (p : Prog Node) → Fails (exec call (captured_on us c w p) s) e t
+UsesAll us c w s (Ok x) t = (call : Caller) (p : Production Node)
+    → exec call (run (captured us c w p)) s ≡ exec call (run p) t
+UsesAll us c w s (Err e) t = (call : Caller) (p : Production Node)
+    → Fails (exec call (run (captured us c w p)) s) e t

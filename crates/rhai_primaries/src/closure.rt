@@ -4,7 +4,9 @@ ghost use Rattle.std.specs.Prelude.{◌+◌};
 ghost use Rattle.rhai_lower.specs.View.{statement_view};
 ghost use Rattle.rhai_trees.specs.Chains.{chain_view};
 ghost use Rattle.rhai_base.specs.Uses.{uses_of};
-ghost use Rattle.rhai_reading.specs.Reading.{closure_end};
+ghost use Rattle.rhai_grammar.specs.Libraries.{closure_count};
+ghost use Rattle.rhai_grammar.specs.Rules.{closure_end};
+ghost use Rattle.rhai_reading.specs.Reading.{run};
 ghost use Rattle.rhai_reading.specs.Running.{Caller, Gives, exec};
 ghost use Rattle.rhai_readers.specs.Frames.{context_of, live_of};
 ghost use Rattle.rhai_readers.specs.Engines.{EngineValue};
@@ -133,10 +135,10 @@ fn end_closure(
 ) -> ParseResult<Chain>
     ensures goes_on { GoesOn shared.old shared.new }
     ensures ends { Ends shared.old shared.new }
-    ensures gives { (engine : EngineValue) (call : Caller) → Gives chain_view (exec call (closure_end
+    ensures gives { (engine : EngineValue) (call : Caller) → Gives chain_view (exec call (run (closure_end
         (context_of engine frame.now settings) (live_of frame.now) settings.pos (names_of names)
-        (statement_view body) (uses_of captured.items) (state_of shared.old).library) (state_of shared.old)) result
-        (state_of shared.new) }
+        (statement_view body) (uses_of captured.items) (closure_count (state_of shared.old).library)))
+        (state_of shared.old)) result (state_of shared.new) }
 {
     let number = shared.library.closure_count();
     let name = make_anonymous_fn(alloc, number as u64)?;

@@ -3,7 +3,7 @@ use Rattle.rhai_reading.specs.Reading.{Goal, Val}
 use Rattle.rhai_grammar.specs.Productions.{Production, View, Seen, view}
 use Rattle.rhai_grammar.specs.Productions as S
 use Rattle.rhai_grammar.specs.Forms as F
-use Rattle.rhai_grammar.specs.Forms.{given, take, this, if_so, if_not, choose, here, must, knows, adds, uses}
+use Rattle.rhai_grammar.specs.Forms.{given, take, this, if_so, if_not, choose, here, must, checked, knows, adds, uses}
 use Rattle.rhai_grammar.specs.Forms.{captures, part, literal, apart, in_text, form}
 use Rattle.rhai_productions.specs.Always.{Always}
 
@@ -18,6 +18,7 @@ module _ (Right : (g : Goal) → Val g → Type 0) where
   trivially R (S.choose v k) h = λ y. trivially R (k y) h
   trivially R (S.here k) h = λ at. trivially R (k at) h
   trivially R (S.must b e p) h = trivially R p h
+  trivially R (S.checked e p) h = trivially R p h
   trivially R (S.knows t e p) h = trivially R p h
   trivially R (S.adds f p) h = trivially R p h
   trivially R (S.uses v ok e c u k) h = λ b. trivially R (k b) h
@@ -42,6 +43,7 @@ module _ (Right : (g : Goal) → Val g → Type 0) where
       always_in (choose {v = v} l at f) r = always_in f (r (view v l))
       always_in (here l at f) r = always_in f (r at)
       always_in (must f) r = always_in f r
+      always_in (checked f) r = always_in f r
       always_in (knows f) r = always_in f r
       always_in (adds f) r = always_in f r
       always_in (uses {v = v} l at f) r = always_in f (r (v l))

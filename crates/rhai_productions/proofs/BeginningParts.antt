@@ -23,7 +23,6 @@ use Rattle.rhai_grammar.specs.Prelude.{Operator, operand_start, role_after, bool
 use Rattle.rhai_reading.specs.Reading as R
 use Rattle.rhai_grammar.specs.Rules as P
 use Rattle.rhai_grammar.specs.Rules.{production}
-use Rattle.rhai_grammar.specs.Productions.{fault_free}
 use Rattle.rhai_productions.proofs.Fits as F
 use Rattle.rhai_productions.proofs.Fits.{Comes, Fit, FitIn, formed, given}
 
@@ -72,7 +71,7 @@ no_link e = record { lexeme = e.lexeme; comes = e.comes; unlinked = e.unlinked }
 
 -- ---- operands and expressions of one primary
 
-pub no_module : (c : Context) (w : Live) (x : Node) → is_variable x ≡ false → fault_free (module_fault c w x) ≡ true
+pub no_module : (c : Context) (w : Live) (x : Node) → is_variable x ≡ false → module_fault c w x ≡ None
 no_module c w (node.variable v p) e = absurd cc
 no_module c w _ e = refl
 
@@ -80,7 +79,7 @@ pub links_end : (c : Context) (w : Live) (x : Node) {u : Point} → Unlinked u
     → Fit (R.Links w (spot_after_operand c x)) [] u u
 links_end c w x {u = u} e =
     formed (F.chooses e.comes (subst (λ v. FitIn (R.Links w (spot_after_operand c x))
-    (P.links_by w (spot_after_operand c x) v) [] u u) (sym e.unlinked) (F.must refl given)))
+    (P.links_by w (spot_after_operand c x) v) [] u u) (sym e.unlinked) (F.checked refl given)))
 
 pub no_operator : {filter : ExprFilter} {u : Point} → Ends filter u → Fit (R.NextOperator filter) None u u
 no_operator {filter = filter} {u = u} e =
@@ -110,7 +109,7 @@ operand_of c w x v {s = s} {u = u} n b other f plain e =
     by : (v : Beginning) → is_sign v ≡ false → FitIn (R.Operand c w) (P.operand_by c w v) x s u
     by begin.Sign other = absurd cc
     by _ other = F.part f (F.part (postfix_end c w x plain e) (F.part (links_end c w x e)
-        (F.must (no_module c w x plain) given)))
+        (F.checked (no_module c w x plain) given)))
 
 pub expression_of : (c : Context) (w : Live) (x : Node) {l : Lexeme} {s u : Point} → Comes l here s
     → may_raise c ≡ true → Fit (R.Operand (level_up c) w) x s u → Ends c.filter u → Fit (R.Expression c w) x s u
@@ -255,7 +254,7 @@ name c w a =
     (formed (F.chooses n (F.part
     (formed (F.chooses n (F.this n (F.uses (sign token.Unit refl) refl given))))
     (F.part (formed (F.if_not (sign token.Unit refl) refl (F.if_so (sign token.Unit refl) refl (F.part
-    (formed (F.chooses (sign token.Unit refl) (F.this (sign token.Unit refl) given))) (F.must refl given)))))
+    (formed (F.chooses (sign token.Unit refl) (F.this (sign token.Unit refl) given))) (F.checked refl given)))))
     (F.part (links_end (inner c) w _ (no_link {filter = c.filter} (ends token.EOF refl refl refl)))
-    (F.must refl given))))))
+    (F.checked refl given))))))
     (ends token.EOF refl refl refl)

@@ -98,13 +98,14 @@ guard : (c : Context) (w : Live) {s : Point} → may_raise c ≡ true → Comes 
     → Fit (R.Guard c w) (node.boolean true here) s (past code s)
 guard c w room n e brace =
     formed (F.if_not n refl (F.part (value_expression c w n room refl refl e)
-    (F.must refl (F.if_not brace refl given))))
+    (F.checked refl (F.if_not brace refl given))))
 
 guard_last : (c : Context) (w : Live) {s : Point} → may_raise c ≡ true → Comes (Sign token.True) here s
     → Ends c.filter (past code s) → Comes (Sign token.EOF) here (past code s)
     → Fit (R.Guard c w) (node.boolean true here) s (past code s)
 guard_last c w room n e end =
-    formed (F.if_not n refl (F.part (value_expression c w n room refl refl e) (F.must refl (F.if_not end refl given))))
+    formed (F.if_not n refl (F.part (value_expression c w n room refl refl e)
+    (F.checked refl (F.if_not end refl given))))
 
 block_begins : (c : Context) (w : Live) (b : Bool) → has_single_blocks c ≡ b
     → may_be_value (inner c) kind.Block ≡ true → Starts (unlimited c) w (Sign token.LeftBrace)
@@ -175,7 +176,7 @@ for_begins c w b e h =
     (F.takes (sign token.In refl) refl given)))) (F.part (formed (F.if_not (next (String []) refl refl) refl
     (F.part (value_expression (deep c) w (next (String []) refl refl) refl refl refl
     (ends token.LeftBrace refl refl refl))
-    (F.must refl given)))) (F.part (braced (loop_body (deep c)) _ b e refl refl [] _) given))))
+    (F.checked refl given)))) (F.part (braced (loop_body (deep c)) _ b e refl refl [] _) given))))
     (ends token.EOF refl refl refl)
 
 interpolated : (c : Context) (w : Live) (a : Text) (b : Bool) → has_single_blocks c ≡ b

@@ -80,7 +80,7 @@ link_adds k on c n m w i before ls lk.Bracket (F.this l at (F.must (F.must (F.pa
     (sym (append-nil (pieces fm))) made))
 link_adds k on c n m w i before ls lk.Dot (F.this l at (F.choose o pos f)) le =
     dot_adds k on c n m w i before ls l at (member_role o) f le
-link_adds k on c n m w i before ls lk.Nothing (F.must F.given) le = ([], sym (append-nil before), none)
+link_adds k on c n m w i before ls lk.Nothing (F.checked F.given) le = ([], sym (append-nil before), none)
 
 links_add : (k : ℕ) → AddsTo k
 links_add zero c n m w i before ls (F.form f) le = absurd (omega (arith, le))
@@ -111,7 +111,7 @@ chain_by_is : (v : Beginning) (c : Context) (n : ℕ) (w : Live) (a : Node)
     (f : F.Filled production (R.Operand (at_level n c) w) (P.operand_by (at_level n c) w v) a) (x : WrittenChain)
     → chain_by v f ≡ Some x → IsOf c w a x
 chain_by_is begin.Sign c n w a f x h = absurd cc
-chain_by_is _ c n w a (F.part p fp (F.part y fy (F.part ls fl (F.must F.given)))) x h =
+chain_by_is _ c n w a (F.part p fp (F.part y fy (F.part ls fl (F.checked F.given)))) x h =
     let made = links_add (height production fl) c n n w (Some y) [] ls fl (omega arith) in
     subst (IsOf c w a) (the_same h) (record {
       tree = refl;
@@ -180,7 +180,7 @@ ungrouped_by_is : (v : Beginning) (c : Context) (n : ℕ) (w : Live) (a : Node)
     (f : F.Filled production (R.Operand (at_level n c) w) (P.operand_by (at_level n c) w v) a) (x : WrittenChain)
     → ungrouped_by v f ≡ Some x → IsOf c w a x
 ungrouped_by_is begin.Sign c n w a f x h = absurd cc
-ungrouped_by_is _ c n w a (F.part p fp (F.part y fy (F.part ls fl (F.must F.given)))) x h =
+ungrouped_by_is _ c n w a (F.part p fp (F.part y fy (F.part ls fl (F.checked F.given)))) x h =
     let o = is_added (unless_called fy (group_in fp)) ls (pieces fl) x h in
     let r = not_called fy (group_in fp) o.0 o.1 in
     let g = group_is c n w p fp o.0 r.0 in

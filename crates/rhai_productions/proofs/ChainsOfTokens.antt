@@ -28,7 +28,7 @@ chain_by_tokens : (v : Beginning) {c : Context} {w : Live} {a : Node}
     (f : F.Filled production (R.Operand c w) (P.operand_by c w v) a) (x : WrittenChain) → chain_by v f ≡ Some x
     → lexemes (spelling_in production f) ≡ of_pieces x.written
 chain_by_tokens begin.Sign f x h = absurd cc
-chain_by_tokens _ (F.part p fp (F.part y fy (F.part ls fl (F.must F.given)))) x h =
+chain_by_tokens _ (F.part p fp (F.part y fy (F.part ls fl (F.checked F.given)))) x h =
     in_three (spelling production fp) (spelling production fy) (spelling production fl)
     ∙ ap (λ z. lexemes (spelling production fp) ++ (lexemes (spelling production fy) ++ z)) (tokens_of fl)
     ∙ ap (λ (z : WrittenChain). of_pieces z.written) (the_same h)
@@ -100,7 +100,7 @@ ungrouped_by_tokens : (v : Beginning) {c : Context} {w : Live} {a : Node}
     (f : F.Filled production (R.Operand c w) (P.operand_by c w v) a) (x : WrittenChain) → ungrouped_by v f ≡ Some x
     → HasTwoMore (of_pieces x.written) (lexemes (spelling_in production f))
 ungrouped_by_tokens begin.Sign f x h = absurd cc
-ungrouped_by_tokens _ (F.part p fp (F.part y fy (F.part ls fl (F.must F.given)))) x h =
+ungrouped_by_tokens _ (F.part p fp (F.part y fy (F.part ls fl (F.checked F.given)))) x h =
     let o = is_added (unless_called fy (group_in fp)) ls (pieces fl) x h in
     let g = group_tokens fp o.0 (not_called fy (group_in fp) o.0 o.1).0 in
     record {

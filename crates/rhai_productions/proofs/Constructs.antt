@@ -11,10 +11,8 @@ use Rattle.rhai_grammar.specs.declared.role.Construct.TheVariants as kind
 use Rattle.rhai_grammar.proofs.LibrarySteps.{Kept}
 use Rattle.rhai_grammar.proofs.NumberSteps as N
 use Rattle.rhai_reading.specs.Reading as R
-use Rattle.rhai_reading.specs.Reading.{body}
 use Rattle.rhai_productions.specs.Numbered.{Leaves}
 use Rattle.rhai_productions.specs.Watched.{IsWithin, Watches}
-use Rattle.rhai_productions.specs.Readers.{run}
 use Rattle.rhai_productions.specs.Shaped.{at_level}
 use Rattle.rhai_productions.specs.Tidiness.{Tidy}
 use Rattle.rhai_productions.proofs.MentionLemmas.{Only, after, both, on, prepended, still}
@@ -29,18 +27,6 @@ use Rattle.rhai_productions.proofs.ShapesOfOperands.{LikeIn, OnStatements}
 use Rattle.rhai_productions.proofs.TreeMentions.{mentions, statement_mentions}
 use Rattle.rhai_productions.proofs.TreeShapes.{catch_so, switch_so}
 use Rattle.rhai_productions.proofs.UsesOfOperands as used
-
--- each is read as the reading program says
-pub same_construct : (c : Context) (w : Live) (at : Position) (k : Kind) → run (P.construct c w at k)
-    ≡ body (R.Construct c w at k)
-same_construct c w at kind.Block = refl
-same_construct c w at kind.If = refl
-same_construct c w at kind.Switch = refl
-same_construct c w at kind.While = refl
-same_construct c w at kind.Loop = refl
-same_construct c w at kind.Do = refl
-same_construct c w at kind.For = refl
-same_construct c w at kind.Try = refl
 
 -- no test of theirs refuses with an error of the last token
 pub tidy_construct : (c : Context) (w : Live) (at : Position) (k : Kind) → Tidy (P.construct c w at k)

@@ -11,16 +11,12 @@ use Rattle.rhai_reading.proofs.Rules.{at}
 use Rattle.rhai_grammar.specs.Forms as D
 use Rattle.rhai_grammar.specs.Rules.{production}
 use Rattle.rhai_grammar.specs.Promises.{Written, written}
-use Rattle.rhai_productions.specs.Agreement.{histories, runs}
 use Rattle.rhai_productions.proofs.Complete.{complete}
-use Rattle.rhai_productions.proofs.Lawful.{lawful, runs_lawful}
-use Rattle.rhai_productions.proofs.Same.{same}
 
 module _ (g : Goal) (s : Progress) (new : IsNew s) (f : Written g)
     (fits : IsWritten (written g) f s.library s.cursor) where
   deep : Dives (λ z. max (D.depth production f.1) z) (body g) (at (from s) s.cursor.peeked)
-  deep = (complete production (same histories lawful) (same runs runs_lawful) f.1 Nothing
-      (from s) fits.0 s.cursor.peeked fits.1).runs.dives
+  deep = (complete f.1 Nothing (from s) fits.0 s.cursor.peeked fits.1).runs.dives
 
   pub nests : (left : Progress) (x : Val g) → s.nesting.active ≤ s.nesting.peak → result_of g s ≡ Done x left
       → NestsAtLeast (D.depth production f.1) s.nesting left.nesting

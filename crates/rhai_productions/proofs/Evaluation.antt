@@ -1,5 +1,5 @@
 -- Demands that are met or missed by evaluation: what is left to show are equations.
-use Rattle.std.proofs.Common.{false, inl, inr, refl, subst, true, ◌≡◌}
+use Rattle.std.proofs.Common.{None, Option, Some, false, inl, inr, refl, subst, true, ◌≡◌}
 use Rattle.rhai_lower.specs.Lexemes.{Lexeme}
 use Rattle.rhai_lower.specs.Positions.{nowhere}
 use Rattle.rhai_lower.specs.declared.position.Position.{Position}
@@ -7,7 +7,8 @@ use Rattle.rhai_grammar.specs.Causes.{ExprTooDeep, Refusal, as_literal, refusal}
 use Rattle.rhai_grammar.specs.Delivered.{Item, Mode, Point, adding, apart, capturing, code, next_at, past}
 use Rattle.rhai_grammar.specs.Delivered.{with_captured}
 use Rattle.rhai_grammar.specs.Demands.{Adds, Ahead, Apart, Blames, Captures, Demands, Fine, HasCaptured, Literally, Met}
-use Rattle.rhai_grammar.specs.Demands.{Missed, Next, Nothing, Otherwise, Refused, Shape, Test, TestIn, Tok, Uses}
+use Rattle.rhai_grammar.specs.Demands.{Missed, Next, NoFault, Nothing, Otherwise, Refused, Shape, Test, TestIn, Tok}
+use Rattle.rhai_grammar.specs.Demands.{Uses}
 use Rattle.rhai_grammar.specs.Demands.{Verdict, Wrong, verdict, ◌▸◌}
 use Rattle.rhai_reading.specs.Reading.{Goal}
 use Rattle.rhai_grammar.specs.Promises.{Unwritten, Written, unwritten, written}
@@ -22,6 +23,7 @@ after (Next test ▸ rest) s = after rest s
 after (Uses test captures u ▸ rest) s =
     after rest (capturing (captures s.library (next_at code s).lexeme) u s)
 after (Test holds why ▸ rest) s = after rest s
+after (NoFault fault ▸ rest) s = after rest s
 after (TestIn holds why ▸ rest) s = after rest s
 after (Adds ended ▸ rest) s = after rest (adding ended s)
 after (Captures holds why captures u ▸ rest) s = after rest (capturing (captures s.library) u s)
@@ -39,6 +41,7 @@ Meets (Uses test captures u ▸ rest) s =
     (verdict (test s.library) (next_at code s).lexeme ≡ Fine)
     × Meets rest (capturing (captures s.library (next_at code s).lexeme) u s)
 Meets (Test holds why ▸ rest) s = (holds ≡ true) × Meets rest s
+Meets (NoFault fault ▸ rest) s = (fault ≡ None) × Meets rest s
 Meets (TestIn holds why ▸ rest) s = (holds s.library ≡ true) × Meets rest s
 Meets (Adds ended ▸ rest) s = Meets rest (adding ended s)
 Meets (Captures holds why captures u ▸ rest) s =
@@ -57,6 +60,7 @@ meets (Ahead token others ▸ rest) s m = (m.0, meets rest s m.1)
 meets (Next test ▸ rest) s m = (m.0, meets rest s m.1)
 meets (Uses test captures u ▸ rest) s m = (m.0, meets rest _ m.1)
 meets (Test holds why ▸ rest) s m = (m.0, meets rest s m.1)
+meets (NoFault fault ▸ rest) s m = (m.0, meets rest s m.1)
 meets (TestIn holds why ▸ rest) s m = (m.0, meets rest s m.1)
 meets (Adds ended ▸ rest) s m = (tt, meets rest _ m)
 meets (Captures holds why captures u ▸ rest) s m = (m.0, meets rest _ m.1)
@@ -80,6 +84,11 @@ error_of Otherwise at = refusal ExprTooDeep at
 abbrev error_at : (Lexeme → Verdict) → Item → Refusal
 error_at test token = error_of (verdict test token.lexeme) token.at
 
+-- a fault; some error, if there is none
+abbrev fault_of : Option Refusal → Refusal
+fault_of None = refusal ExprTooDeep nowhere
+fault_of (Some why) = why
+
 -- the error of the last demand, where those before it are met
 abbrev pub blame : Demands → Point → Refusal
 blame Nothing s = refusal ExprTooDeep nowhere
@@ -94,6 +103,8 @@ blame (Uses test captures u ▸ (d ▸ rest)) s =
     blame (d ▸ rest) (capturing (captures s.library (next_at code s).lexeme) u s)
 blame (Test holds why ▸ Nothing) s = why
 blame (Test holds why ▸ (d ▸ rest)) s = blame (d ▸ rest) s
+blame (NoFault fault ▸ Nothing) s = fault_of fault
+blame (NoFault fault ▸ (d ▸ rest)) s = blame (d ▸ rest) s
 blame (TestIn holds why ▸ Nothing) s = why
 blame (TestIn holds why ▸ (d ▸ rest)) s = blame (d ▸ rest) s
 blame (Adds ended ▸ rest) s = blame rest (adding ended s)
@@ -124,6 +135,8 @@ MissesLast (Uses test captures u ▸ (d ▸ rest)) s e m t =
     × MissesLast (d ▸ rest) (capturing (captures s.library (next_at code s).lexeme) u s) e m t
 MissesLast (Test holds why ▸ Nothing) s e m t = (holds ≡ false) × (e ≡ why) × (m ≡ code) × (t ≡ s)
 MissesLast (Test holds why ▸ (d ▸ rest)) s e m t = (holds ≡ true) × MissesLast (d ▸ rest) s e m t
+MissesLast (NoFault fault ▸ Nothing) s e m t = (fault ≡ Some e) × (m ≡ code) × (t ≡ s)
+MissesLast (NoFault fault ▸ (d ▸ rest)) s e m t = (fault ≡ None) × MissesLast (d ▸ rest) s e m t
 MissesLast (TestIn holds why ▸ Nothing) s e m t = (holds s.library ≡ false) × (e ≡ why) × (m ≡ code) × (t ≡ s)
 MissesLast (TestIn holds why ▸ (d ▸ rest)) s e m t = (holds s.library ≡ true) × MissesLast (d ▸ rest) s e m t
 MissesLast (Adds ended ▸ rest) s e m t = MissesLast rest (adding ended s) e m t
@@ -153,6 +166,8 @@ missed_by (Uses test captures u ▸ Nothing) s e m t k = inl k
 missed_by (Uses test captures u ▸ (d ▸ rest)) s e m t k = inr (k.0, missed_by (d ▸ rest) _ e m t k.1)
 missed_by (Test holds why ▸ Nothing) s e m t k = inl k
 missed_by (Test holds why ▸ (d ▸ rest)) s e m t k = inr (k.0, missed_by (d ▸ rest) s e m t k.1)
+missed_by (NoFault fault ▸ Nothing) s e m t k = inl k
+missed_by (NoFault fault ▸ (d ▸ rest)) s e m t k = inr (k.0, missed_by (d ▸ rest) s e m t k.1)
 missed_by (TestIn holds why ▸ Nothing) s e m t k = inl k
 missed_by (TestIn holds why ▸ (d ▸ rest)) s e m t k = inr (k.0, missed_by (d ▸ rest) s e m t k.1)
 missed_by (Adds ended ▸ rest) s e m t k = (tt, missed_by rest (adding ended s) e m t k)

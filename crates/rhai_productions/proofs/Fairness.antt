@@ -11,7 +11,7 @@ use Rattle.rhai_reading.specs.Reading.{Goal, Val}
 use Rattle.rhai_grammar.specs.Productions.{Production}
 use Rattle.rhai_grammar.specs.Rules.{production}
 use Rattle.rhai_grammar.specs.Forms as F
-use Rattle.rhai_grammar.specs.Forms.{given, take, this, if_so, if_not, choose, here, must, knows, adds, uses}
+use Rattle.rhai_grammar.specs.Forms.{given, take, this, if_so, if_not, choose, here, must, checked, knows, adds, uses}
 use Rattle.rhai_grammar.specs.Forms.{captures, part, literal, apart, in_text, form}
 use Rattle.rhai_grammar.specs.Promises.{written}
 use Rattle.rhai_productions.specs.StreamLaws.{FormsAreFair}
@@ -44,6 +44,7 @@ module _ (rule : (g : Goal) → Production (Val g)) where
     fair_in (choose l at f) k h = (open_to l, fair_in f k h)
     fair_in (here l at f) k h = (open_to l, fair_in f k h)
     fair_in (must f) k h = fair_in f k h
+    fair_in (checked f) k h = fair_in f k h
     fair_in (knows f) k h = fair_in f k h
     fair_in (adds f) k h = fair_in f k h
     fair_in (uses l at f) k h = (open_to l, fair_in f k h)

@@ -18,18 +18,9 @@ use Rattle.rhai_grammar.specs.Prelude.{Lexeme, Position, Refusal, refusal, Conte
 use Rattle.rhai_grammar.specs.Prelude.{target_fault, guard_fault, iterated_fault, Nodes, no_nodes, position_of}
 use Rattle.rhai_grammar.specs.Prelude.{module_fault, Link, index_refusal, last_fault, Collected, Chain, LinkKind}
 use Rattle.rhai_grammar.specs.Prelude.{chain_of, is_at_last, with_case}
-use Rattle.rhai_grammar.specs.Productions.{fault_of}
 use Rattle.rhai_grammar.specs.Rules as P
+use Rattle.rhai_productions.specs.Tidiness.{Early}
 use Rattle.rhai_grammar.specs.Rules.{production}
-
--- what is refused, if anything, may stand before the last token that was seen
-abbrev pub Early : Option Refusal → Type 0
-Early None = Unit {0}
-Early (Some e) = is_at_last e.cause ≡ false
-
-pub no_fault : (f : Option Refusal) → Early f → is_at_last (fault_of f).cause ≡ false
-no_fault None h = refl
-no_fault (Some e) h = h
 
 pub early_if : (b : Bool) (x y : Option Refusal) → Early x → Early y → Early (if b then x else y)
 early_if true x y g h = g

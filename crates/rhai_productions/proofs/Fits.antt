@@ -1,5 +1,5 @@
 -- Forms that fit between two points, put together along productions.
-use Rattle.std.proofs.Common.{◌≡◌, ℕ, Bool, true, false, List, refl, ap, ◌∙◌, if◌then◌else◌}
+use Rattle.std.proofs.Common.{◌≡◌, ℕ, Bool, true, false, List, refl, ap, ◌∙◌, if◌then◌else◌, Option, None}
 use Rattle.rhai_lower.specs.declared.token.Token.TheVariants as token
 use Rattle.rhai_grammar.specs.Prelude.{Lexeme, Sign, Position, Item, item, code, text, Point, Use, Ended, Library}
 use Rattle.rhai_grammar.specs.Prelude.{Demands, Nothing, Met, Refusal, Cause, Verdict, Fine, Wrong, Blames, Otherwise}
@@ -99,6 +99,10 @@ module _ {h : Goal} {x : Val h} {s u : Point} where
   pub must : {b : Bool} {e : Refusal} {p : Production (Val h)} → b ≡ true → FitIn h p x s u
       → FitIn h (S.must b e p) x s u
   must is r = record { filled = D.must r.filled; met = λ k t m. (is, r.met k t m) }
+
+  pub checked : {e : Option Refusal} {p : Production (Val h)} → e ≡ None → FitIn h p x s u
+      → FitIn h (S.checked e p) x s u
+  checked is r = record { filled = D.checked r.filled; met = λ k t m. (is, r.met k t m) }
 
   pub knows : {f : Library → Bool} {e : Refusal} {p : Production (Val h)} → f s.library ≡ true → FitIn h p x s u
       → FitIn h (S.knows f e p) x s u

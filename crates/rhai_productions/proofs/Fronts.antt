@@ -3,7 +3,7 @@ use Rattle.rhai_grammar.specs.Prelude.{Demands, Met, Point, past, next_at, addin
 use Rattle.rhai_reading.specs.Reading.{Goal, Val}
 use Rattle.rhai_grammar.specs.Productions.{Production}
 use Rattle.rhai_grammar.specs.Forms as F
-use Rattle.rhai_grammar.specs.Forms.{given, take, this, if_so, if_not, choose, here, must, knows, adds, uses}
+use Rattle.rhai_grammar.specs.Forms.{given, take, this, if_so, if_not, choose, here, must, checked, knows, adds, uses}
 use Rattle.rhai_grammar.specs.Forms.{captures, part, literal, apart, in_text, form}
 
 pub record Front (D : Demands → Demands) (j : Demands) (s t : Point) : Type 0 where
@@ -31,6 +31,7 @@ module _ (rule : (g : Goal) → Production (Val g)) where
     fronted (choose l at f) j s t m = stays (fronted f j s t m.1.1) (λ k u n. (m.0, (m.1.0, n)))
     fronted (here l at f) j s t m = stays (fronted f j s t m.1.1) (λ k u n. (m.0, (m.1.0, n)))
     fronted (must f) j s t m = stays (fronted f j s t m.1) (λ k u n. (m.0, n))
+    fronted (checked f) j s t m = stays (fronted f j s t m.1) (λ k u n. (m.0, n))
     fronted (knows f) j s t m = stays (fronted f j s t m.1) (λ k u n. (m.0, n))
     fronted (adds {f = x} f) j s t m = stays (fronted f j (adding x s) t m.1) (λ k u n. (m.0, n))
     fronted (uses {c = c} {u = u} l at f) j s t m =

@@ -2,7 +2,7 @@
 use Rattle.std.specs.Prelude.{ℕ, ◌+◌}
 use Rattle.rhai_reading.specs.Reading.{Goal, Val}
 use Rattle.rhai_grammar.specs.Productions.{Production}
-use Rattle.rhai_grammar.specs.Forms.{Form, Filled, given, take, this, if_so, if_not, choose, here, must, knows}
+use Rattle.rhai_grammar.specs.Forms.{Form, Filled, given, take, this, if_so, if_not, choose, here, must, checked, knows}
 use Rattle.rhai_grammar.specs.Forms.{adds, uses, captures, part, literal, apart, in_text, form}
 
 module _ (rule : (g : Goal) → Production (Val g)) where
@@ -19,6 +19,7 @@ module _ (rule : (g : Goal) → Production (Val g)) where
     height_in (choose l at f) = height_in f
     height_in (here l at f) = height_in f
     height_in (must f) = height_in f
+    height_in (checked f) = height_in f
     height_in (knows f) = height_in f
     height_in (adds f) = height_in f
     height_in (uses l at f) = height_in f

@@ -8,7 +8,7 @@ use Rattle.rhai_reading.proofs.Looks.{op_at, fine, no_other, or_wrong}
 use Rattle.rhai_grammar.specs.Productions.{Production, view}
 use Rattle.rhai_grammar.specs.Productions as S
 use Rattle.rhai_grammar.specs.Forms as F
-use Rattle.rhai_grammar.specs.Forms.{given, take, this, if_so, if_not, choose, here, must, knows, adds, uses}
+use Rattle.rhai_grammar.specs.Forms.{given, take, this, if_so, if_not, choose, here, must, checked, knows, adds, uses}
 use Rattle.rhai_grammar.specs.Forms.{captures, part, literal, apart, in_text, form}
 use Rattle.rhai_productions.specs.Kept.{Keeps}
 use Rattle.rhai_productions.proofs.Complete.{or_other}
@@ -59,6 +59,7 @@ module _ (rule : (g : Goal) → Production (Val g)) (Right : (g : Goal) → Val 
         keeps f b k s t m.1.1 (h (view v l) (ap (λ (i : Item). view v i.lexeme) m.1.0))
     keeps (here l at f) b k s t m h = keeps f b k s t m.1.1 (h at)
     keeps (must f) b k s t m h = keeps f b k s t m.1 (h m.0)
+    keeps (checked f) b k s t m h = keeps f b k s t m.1 (h m.0)
     keeps (knows f) b k s t m h = keeps f b k s t m.1 h
     keeps (adds {f = x} f) b k s t m h =
         let r = keeps f b k (adding x s) t m.1 h.1 in
@@ -102,6 +103,7 @@ module _ (Right : (g : Goal) → Val g → (first next : Lexeme) → Type 0) whe
   trivially Q (S.choose v k) n h = λ y e. trivially Q (k y) n h
   trivially Q (S.here k) n h = λ at. trivially Q (k at) n h
   trivially Q (S.must b e p) n h = λ is. trivially Q p n h
+  trivially Q (S.checked e p) n h = λ is. trivially Q p n h
   trivially Q (S.knows t e p) n h = trivially Q p n h
   trivially Q (S.adds f p) n h = (tt, trivially Q p n h)
   trivially Q (S.uses v ok e c u k) n h = λ b is. trivially Q (k b) n h

@@ -13,20 +13,13 @@ use Rattle.rhai_reading.proofs.Joins.{cursor}
 use Rattle.rhai_reading.proofs.Reaches.{reached_end}
 use Rattle.rhai_reading.proofs.Rules.{at}
 use Rattle.rhai_reading.proofs.Shows as S
-use Rattle.rhai_productions.specs.Agreement.{histories, runs}
 use Rattle.rhai_productions.specs.Laws.{EntriesArePromised, FormsAreComplete, FormsAreSound}
-use Rattle.rhai_productions.specs.Laws.{FormsHaveOneTree, FormsNestReaders, IsPromised, ProductionsAreRead}
+use Rattle.rhai_productions.specs.Laws.{FormsHaveOneTree, FormsNestReaders, IsPromised}
 use Rattle.rhai_grammar.specs.Promises.{Written, written, tree_of, Unwritten, unwritten}
-use Rattle.rhai_grammar.specs.Rules.{production}
 use Rattle.rhai_productions.proofs.Complete.{complete}
 use Rattle.rhai_productions.proofs.Depth.{nests}
 use Rattle.rhai_productions.proofs.Main.{expression_entry, script_entry, reads_done, reads_fails}
 use Rattle.rhai_productions.proofs.Main.{sound_goal}
-use Rattle.rhai_productions.proofs.Lawful.{lawful, runs_lawful}
-use Rattle.rhai_productions.proofs.Same.{equally, same}
-
-pub productions_are_read : ProductionsAreRead
-productions_are_read = record { equal = equally; in_histories = same histories lawful; in_runs = same runs runs_lawful }
 
 -- ---- sound and complete
 
@@ -44,7 +37,7 @@ forms_are_sound = record {
 
 pub forms_are_complete : FormsAreComplete
 forms_are_complete g f s t looked met =
-    let r = reached_end (complete production (same histories lawful) (same runs runs_lawful) f.1 _ s t looked met) in
+    let r = reached_end (complete f.1 _ s t looked met) in
     (r.0, r.1.runs)
 
 pub forms_have_one_tree : FormsHaveOneTree

@@ -1,9 +1,4 @@
-pub mod Looked
-pub mod Lawful
-pub mod SameOperands
-pub mod SameStatements
 pub mod Constructs
-pub mod Same
 pub mod Faults
 pub mod Tidies
 pub mod Sound

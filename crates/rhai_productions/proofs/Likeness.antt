@@ -5,7 +5,7 @@ use Rattle.rhai_reading.specs.Reading.{Goal, Val}
 use Rattle.rhai_grammar.specs.Productions as S
 use Rattle.rhai_grammar.specs.Productions.{Production, View, view, name, stop}
 use Rattle.rhai_grammar.specs.Forms as F
-use Rattle.rhai_grammar.specs.Forms.{given, take, this, if_so, if_not, choose, here, must, knows, adds, uses}
+use Rattle.rhai_grammar.specs.Forms.{given, take, this, if_so, if_not, choose, here, must, checked, knows, adds, uses}
 use Rattle.rhai_grammar.specs.Forms.{captures, part, literal, apart, in_text, form}
 use Rattle.rhai_productions.specs.Shaped as Z
 
@@ -19,6 +19,7 @@ module _ (Near : Goal → Goal → Type 0) (Equal : (g h : Goal) → Near g h �
   Like Q (S.choose v k) (S.choose w j) = (l : Lexeme) → Like Q (k (view v l)) (j (view w l))
   Like Q (S.here k) (S.here j) = (at pos : Position) → Like Q (k at) (j pos)
   Like Q (S.must b e p) (S.must c d q) = Like Q p q
+  Like Q (S.checked e p) (S.checked d q) = Like Q p q
   Like Q (S.knows t e p) (S.knows u d q) = Like Q p q
   Like Q (S.adds f p) (S.adds g q) = Like Q p q
   Like Q (S.uses v ok e c u k) (S.uses w may d b t j) = (l : Lexeme) → Like Q (k (v l)) (j (w l))
@@ -56,6 +57,7 @@ module _ (Near : Goal → Goal → Type 0) (Equal : (g h : Goal) → Near g h �
       kept (if_not f) h q y (if_not {q = o} e) a r same = kept f h o y e a r.1 same
       kept (here l at f) h q y (here {k = j} m pos e) a r same = kept f h (j pos) y e a (r at pos) same
       kept (must f) h q y (must {p = o} e) a r same = kept f h o y e a r same
+      kept (checked f) h q y (checked {p = o} e) a r same = kept f h o y e a r same
       kept (knows f) h q y (knows {p = o} e) a r same = kept f h o y e a r same
       kept (adds f) h q y (adds {p = o} e) a r same = kept f h o y e a r same
       kept (captures f) h q y (captures {p = o} e) a r same = kept f h o y e a r same

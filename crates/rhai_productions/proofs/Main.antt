@@ -22,12 +22,9 @@ use Rattle.rhai_reading.proofs.Reaches.{reached_end}
 use Rattle.rhai_grammar.specs.Promises.{ReadsWhole, Written, written, tree_of, Unwritten, unwritten}
 use Rattle.rhai_grammar.specs.Forms as D
 use Rattle.rhai_grammar.specs.Rules.{production}
-use Rattle.rhai_productions.specs.Agreement.{histories, runs}
 use Rattle.rhai_productions.proofs.Sound.{Read, Halts, sound}
 use Rattle.rhai_productions.proofs.Complete.{complete}
-use Rattle.rhai_productions.proofs.Same.{same}
 use Rattle.rhai_productions.proofs.Tidies.{tidy}
-use Rattle.rhai_productions.proofs.Lawful.{lawful, runs_lawful}
 
 -- ---- what is promised of a result
 
@@ -89,7 +86,7 @@ pub sound_goal : (n : ℕ) (g : Goal) (s : Point) (b : Bool)
     → S.Ensures (λ x t. (f : Written g) × (tree_of g f ≡ x) × Met (written g f) s t)
     (λ e u. (f : Unwritten g) × Missed (unwritten g f) s e u.mode u.point × StandsAtLast e (cursor u))
     (calls n g (at s b))
-sound_goal n g s b = entry_sound n g s _ (sound production (same histories lawful) tidy n g s b).told
+sound_goal n g s b = entry_sound n g s _ (sound tidy n g s b).told
 
 -- any goal that looks at the first token
 pub derived_entry : (g : Goal)
@@ -98,7 +95,7 @@ pub derived_entry : (g : Goal)
 derived_entry g looks = record {
   sound = λ n s b. sound_goal n g s b;
   complete = λ f s t b m.
-      let r = reached_end (complete production (same histories lawful) (same runs runs_lawful) f.1 Nothing s t b m) in
+      let r = reached_end (complete f.1 Nothing s t b m) in
       (r.0, r.1.runs);
   looks = looks;
 }

@@ -10,7 +10,6 @@ use Rattle.rhai_grammar.specs.CaseValues.{range_end, range_from, range_over, ran
 use Rattle.rhai_grammar.specs.Prelude.{Collected, Node, Nodes, Properties, Refusal, Text, arm_fault, same_value}
 use Rattle.rhai_grammar.specs.Prelude.{with_arm_collected, with_case, with_cases, with_default_collected, with_value}
 use Rattle.rhai_grammar.specs.Switches.{case_fault, fault_from, no_guard}
-use Rattle.rhai_grammar.specs.Productions.{fault_free}
 use Rattle.rhai_productions.specs.Mentions.{Mention, is_read}
 use Rattle.rhai_productions.proofs.TreeMentions.{all_mentions, arm_mentions, case_mentions, mentions, property_mentions}
 use Rattle.rhai_productions.proofs.MentionLemmas.{More, Only, Silent, call_reads, none_read, read_append}
@@ -57,7 +56,7 @@ mutual
       let h = and_parts (is_literal_value n) (have_literal_values ps) e in
       λ name. none_read name (mentions n) (property_mentions ps) (literal n h.0 name) (properties ps h.1 name)
 
-none_first : (a b : Option Refusal) → fault_free (option_or a b) ≡ true → (a ≡ None) × (fault_free b ≡ true)
+none_first : (a b : Option Refusal) → option_or a b ≡ None → (a ≡ None) × (b ≡ None)
 none_first None b e = (refl, e)
 none_first (Some x) b e = absurd cc
 
@@ -65,7 +64,7 @@ is_literal : (b : Bool) (r : Refusal) (o : Option Refusal) → (if not b then So
 is_literal true r o e = refl
 is_literal false r o e = absurd cc
 
-all_literal : (i : ℕ) (b : Collected) (xs : Nodes) → fault_free (fault_from i b xs) ≡ true
+all_literal : (i : ℕ) (b : Collected) (xs : Nodes) → fault_from i b xs ≡ None
     → are_literal_values xs ≡ true
 all_literal i b node.no_nodes e = refl
 all_literal i b (node.one_node x xs) e =
@@ -74,7 +73,7 @@ all_literal i b (node.one_node x xs) e =
     (all_literal i (with_case i b x) xs h.1)
 
 -- the cases of an arm without a fault are literal values
-pub faultless : (b : Collected) (xs : Nodes) → fault_free (arm_fault b xs) ≡ true → are_literal_values xs ≡ true
+pub faultless : (b : Collected) (xs : Nodes) → arm_fault b xs ≡ None → are_literal_values xs ≡ true
 faultless b xs e = all_literal _ b xs e
 
 -- ---- arms

@@ -1,5 +1,5 @@
 -- No cause in a production says that the key of a closure is there, but where a key is tested.
-use Rattle.std.proofs.Common.{◌≡◌, ℕ, false, Option, Some, None, refl}
+use Rattle.std.proofs.Common.{◌≡◌, ℕ, false, Option, Some, refl, subst}
 use Rattle.rhai_lower.specs.Lexemes.{Faulty, Reserved}
 use Rattle.rhai_grammar.specs.Prelude.{Lexeme, Text, text_of}
 use Rattle.rhai_grammar.specs.Prelude.{Refusal}
@@ -14,7 +14,6 @@ use Rattle.rhai_grammar.specs.Literals as L
 use Rattle.rhai_grammar.specs.LibraryLaws.{duplicates_closure}
 use Rattle.rhai_grammar.specs.declared.list.CommaList.{CommaList}
 use Rattle.rhai_grammar.proofs.Duplicates.{either, has_duplicate}
-use Rattle.rhai_grammar.specs.Productions.{fault_free, fault_of}
 use Rattle.rhai_productions.proofs.Ordering.{Spared, missing_spared, unexpected_spared}
 
 -- ---- causes
@@ -49,6 +48,5 @@ no_body f (Faulty x) = refl
 no_body f _ = refl
 
 -- an error, if there is one
-pub fault : (f : Option Refusal) → has_duplicate f ≡ false → fault_free f ≡ false → Spared (fault_of f)
-fault None h e = refl
-fault (Some why) h e = h
+pub fault : (f : Option Refusal) → has_duplicate f ≡ false → (why : Refusal) → f ≡ Some why → Spared why
+fault f h why e = subst (λ o. has_duplicate o ≡ false) e h

@@ -1,5 +1,6 @@
 -- Productions that keep libraries orderly, and what follows of their forms. One induction over forms.
-use Rattle.std.proofs.Common.{◌≡◌, ◌⊎◌, inl, inr, ℕ, Bool, true, false, Option, List, refl, sym, subst, arith}
+use Rattle.std.proofs.Common.{◌≡◌, ◌⊎◌, inl, inr, ℕ, Bool, true, false, Option, Some, None, List, refl, sym, subst}
+use Rattle.std.proofs.Common.{arith}
 use Rattle.rhai_grammar.specs.Prelude.{Lexeme, Position, Item, Mode, code, text, Point, Use, Library, Refusal, Verdict}
 use Rattle.rhai_grammar.specs.Prelude.{Demands, Nothing, Met, Missed, with_ended, past, next_at, adding, capturing}
 use Rattle.rhai_grammar.specs.Prelude.{with_captured, unexpected, is_text, Fine, Wrong, Blames, Otherwise, is_due}
@@ -16,7 +17,7 @@ use Rattle.rhai_reading.specs.Reading.{Goal, Val}
 use Rattle.rhai_grammar.specs.Productions.{Production, Seen, view}
 use Rattle.rhai_grammar.specs.Productions as S
 use Rattle.rhai_grammar.specs.Forms as F
-use Rattle.rhai_grammar.specs.Forms.{given, take, this, if_so, if_not, choose, here, must, knows, adds, uses}
+use Rattle.rhai_grammar.specs.Forms.{given, take, this, if_so, if_not, choose, here, must, checked, knows, adds, uses}
 use Rattle.rhai_grammar.specs.Forms.{captures, part, apart, in_text, form}
 use Rattle.rhai_productions.proofs.TreesIf.{RightIf}
 
@@ -52,6 +53,7 @@ module _ (limit : ℕ) (Begun : ℕ → Goal → Type 0) (Right : (g : Goal) →
     Orders R (S.if_next t p q) l = Orders R p l × Orders R q l
     Orders R (S.here k) l = (at : Position) → Orders R (k at) l
     Orders R (S.must b e p) l = (b ≡ false → Spared e) × (b ≡ true → Orders R p l)
+    Orders R (S.checked e p) l = ((why : Refusal) → e ≡ Some why → Spared why) × (e ≡ None → Orders R p l)
     Orders R (S.knows t e p) l = (t l ≡ false → Spared e) × (t l ≡ true → Orders R p l)
     Orders R (S.adds f p) l = Within (with_ended l f) × Orders R p (with_ended l f)
     Orders R (S.uses v ok e c u k) l = Spared e × ((b : Bool) → Orders R (k b) l)
@@ -95,6 +97,7 @@ module _ (limit : ℕ) (Begun : ℕ → Goal → Type 0) (Right : (g : Goal) →
       ordered_in (choose {v = v} l at f) b k s t o m = ordered_in f b k s t (o (view v l) l refl) m.1.1
       ordered_in (here l at f) b k s t o m = ordered_in f b k s t (o at) m.1.1
       ordered_in (must f) b k s t o m = ordered_in f b k s t (o.1 m.0) m.1
+      ordered_in (checked f) b k s t o m = ordered_in f b k s t (o.1 m.0) m.1
       ordered_in (knows f) b k s t o m = ordered_in f b k s t (o.1 m.0) m.1
       ordered_in (adds {f = x} f) b k s t o m = ordered_in f b k (adding x s) t o.1 m.1
       ordered_in (uses {v = v} {c = c} {u = u} l at f) b k s t o m =
@@ -141,6 +144,13 @@ module _ (limit : ℕ) (Begun : ℕ → Goal → Type 0) (Right : (g : Goal) →
         → Within s.library → (Refused v i e × N × (t ≡ s)) ⊎ (B × C) → (Left e t → R) → (C → R) → R
     token_or {v = v} i s t e h w (inl a) f g = f (refused v i e h.spares a.0, stays s t w a.2)
     token_or i s t e h w (inr b) f g = g b.1
+
+    -- there is a fault, or what follows is missed
+    fault_or : {C N R : Type 0} {f : Option Refusal} (s t : Point) (e : Refusal)
+        → ((why : Refusal) → f ≡ Some why → Spared why) → Within s.library
+        → ((f ≡ Some e) × N × (t ≡ s)) ⊎ ((f ≡ None) × C) → (Left e t → R) → (f ≡ None → C → R) → R
+    fault_or s t e h w (inl a) go on = go (h e a.0, stays s t w a.2)
+    fault_or s t e h w (inr b) go on = on b.0 b.1
 
     -- a test fails, or what follows is missed
     test_or : {A B C N R : Type 0} (s t : Point) (e why : Refusal) → (A → Spared why) → Within s.library
@@ -224,6 +234,8 @@ module _ (limit : ℕ) (Begun : ℕ → Goal → Type 0) (Right : (g : Goal) →
           token_or (next_at code s) s t e after w m inl (λ m. fails_in f b k s e n t w (o at) m))
       fails_in (must {e = why} f) b k s e n t w o m =
           test_or s t e why o.0 w m inl (λ is m. fails_in f b k s e n t w (o.1 is) m)
+      fails_in (checked f) b k s e n t w o m =
+          fault_or s t e o.0 w m inl (λ is m. fails_in f b k s e n t w (o.1 is) m)
       fails_in (knows {e = why} f) b k s e n t w o m =
           test_or s t e why o.0 w m inl (λ is m. fails_in f b k s e n t w (o.1 is) m)
       fails_in (adds {f = x} f) b k s e n t w o m = fails_in f b k (adding x s) e n t o.0 o.1 m.1
@@ -257,6 +269,7 @@ module _ (limit : ℕ) (Begun : ℕ → Goal → Type 0) (Right : (g : Goal) →
       fails_in (F.take_here {w = is} {m = miss}) b k s e n t w o m =
           token_or (next_at code s) s t e (wanted is miss o.0) w m inl (λ m. absurd m)
       fails_in (F.must_here {e = why}) b k s e n t w o m = test_or s t e why o.0 w m inl (λ is m. absurd m)
+      fails_in F.checked_here b k s e n t w o m = fault_or s t e o.0 w m inl (λ is m. absurd m)
       fails_in (F.knows_here {e = why}) b k s e n t w o m = test_or s t e why o.0 w m inl (λ is m. absurd m)
       fails_in (F.uses_here {ok = ok} {e = why}) b k s e n t w o m =
           token_or (next_at code s) s t e (known ok why s.library o.0) w m inl (λ m. absurd m)

@@ -11,7 +11,7 @@ use Rattle.rhai_grammar.proofs.SeenLemmas.{both, leads_on}
 use Rattle.rhai_reading.specs.Reading.{Goal, Val}
 use Rattle.rhai_grammar.specs.Productions.{Production}
 use Rattle.rhai_grammar.specs.Forms as F
-use Rattle.rhai_grammar.specs.Forms.{given, take, this, if_so, if_not, choose, here, must, knows, adds, uses}
+use Rattle.rhai_grammar.specs.Forms.{given, take, this, if_so, if_not, choose, here, must, checked, knows, adds, uses}
 use Rattle.rhai_grammar.specs.Forms.{captures, part, literal, apart, in_text, form}
 use Rattle.rhai_grammar.specs.Events as D
 use Rattle.rhai_productions.specs.EventLaws as law
@@ -177,6 +177,7 @@ module _ (rule : (g : Goal) → Production (Val g)) where
     passes_in (choose l at f) k s t m = passes_in f k s t m.1.1
     passes_in (here l at f) k s t m = passes_in f k s t m.1.1
     passes_in (must f) k s t m = passes_in f k s t m.1
+    passes_in (checked f) k s t m = passes_in f k s t m.1
     passes_in (knows f) k s t m = passes_in f k s t m.1
     passes_in (adds {f = x} f) k s t m = ended x (passes_in f k (adding x s) t m.1)
     passes_in (uses {c = c} {u = u} l at f) k s t m =

@@ -2,11 +2,9 @@
 use Rattle.std.proofs.Common.{suc, List, [], ◌∷◌, refl, map, inl, inr, arith}
 use Rattle.std.specs.List.{Contains}
 use Rattle.rhai_grammar.specs.declared.list.CommaList.TheVariants as lists
-use Rattle.rhai_grammar.specs.Prelude.{Position, text_of, target_fault}
-use Rattle.rhai_grammar.specs.Prelude.{is_constant_use, is_name, guard_fault, iterated_fault}
+use Rattle.rhai_grammar.specs.Prelude.{Position, text_of}
+use Rattle.rhai_grammar.specs.Prelude.{is_constant_use, is_name}
 use Rattle.rhai_grammar.specs.Prelude.{has_single_blocks}
-use Rattle.rhai_grammar.specs.Prelude.{index_refusal}
-use Rattle.rhai_grammar.specs.Prelude.{arm_fault}
 use Rattle.rhai_grammar.specs.Prelude.{Use, Library}
 use Rattle.rhai_reading.specs.Reading as R
 use Rattle.rhai_reading.specs.Reading.{Goal, Val}
@@ -19,7 +17,7 @@ use Rattle.rhai_grammar.proofs.PositionTrees as T
 use Rattle.rhai_grammar.proofs.PositionTrees.{AllLinks, AllPlaced, Placed}
 use Rattle.rhai_productions.proofs.Constructs.{position_of_construct}
 use Rattle.rhai_productions.proofs.Standing.{refused}
-use Rattle.rhai_productions.proofs.PositionsOfOperands.{AllowsAs, Wants, Right, by_either, either_of, parted, fault_at}
+use Rattle.rhai_productions.proofs.PositionsOfOperands.{AllowsAs, Wants, Right, by_either, either_of, parted}
 use Rattle.rhai_productions.proofs.PositionsOfOperands.{one_more, longer, operand, right, primary, called, call_of, links}
 use Rattle.rhai_productions.proofs.PositionsOfOperands.{element, key, field, follower, binary}
 use Rattle.rhai_productions.proofs.PositionsOfStatements.{export, statement, statements, inside, do_end, arms}
@@ -42,7 +40,7 @@ module _ (G : Position → Type 0) where
   )
   table (R.Links w spot) i = λ v. links G w spot v i
   table (R.Index c w indexed) i =
-      (tt, λ x h. (fault_at G (index_refusal indexed x) (T.of_index G indexed x h), λ n p a. h))
+      (tt, λ x h. (T.of_index G indexed x h, λ n p a. h))
   table (R.Member c w) i = λ n at a. ((a, λ call h. a), by_either G (Placed G) (is_name n) _ _ (tt, a) (λ e. a, tt))
   table (R.Postfix c w x) i = ((i, λ y k. call_of G c w y k), call_of G c w x i)
   table (R.Arguments c w at) i = (tt, (λ n p a. tt, (λ e. i, (tt, λ ns h. tt))))
@@ -62,8 +60,7 @@ module _ (G : Position → Type 0) where
       λ n at a. (
         tt,
         λ y k. (
-          fault_at G (target_fault (is_constant_use w.slots x) n at x)
-              (T.of_target G (is_constant_use w.slots x) n at x a h),
+          T.of_target G (is_constant_use w.slots x) n at x a h,
           a,
         ),
       ),
@@ -84,8 +81,8 @@ module _ (G : Position → Type 0) where
   table (R.BlockEnd at fs) i = λ n p a. i
   table (R.Construct c w at kind) i = position_of_construct G c w at kind i
   table (R.Braced c w at) i = (tt, λ p h. (λ e. i, (h, λ b k. k)))
-  table (R.Guard c w) i = (tt, (tt, λ x h. (fault_at G (guard_fault x) (T.of_guard G x h), (tt, tt))))
-  table (R.Iterated c w) i = (tt, (tt, λ x h. (fault_at G (iterated_fault x) (T.of_iterated G x h), tt)))
+  table (R.Guard c w) i = (tt, (tt, λ x h. (T.of_guard G x h, (tt, tt))))
+  table (R.Iterated c w) i = (tt, (tt, λ x h. (T.of_iterated G x h, tt)))
   table (R.Conditional c w at) i = (tt, λ x h. (i, λ b k. (i, λ e j. i)))
   table (R.Branch c w at) i = (λ n p a. (λ m q b. (λ e. i, (b, λ f h. tt)), (i, λ x h. tt)), tt)
   table R.LoopNames i = (λ n p a m q b k r c j s d. (λ e. d, λ l x f o y g. tt), λ n p a m q b. tt)
@@ -99,7 +96,7 @@ module _ (G : Position → Type 0) where
       λ g k n p a. (
         tt,
         λ d j.
-            (fault_at G (arm_fault before xs) (T.of_arm G before xs h), (tt, λ e q. tt)),
+            (T.of_arm G before xs h, (tt, λ e q. tt)),
       ),
     ),
   )

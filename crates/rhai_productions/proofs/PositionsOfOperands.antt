@@ -1,6 +1,6 @@
 -- Refusals in productions of operands, calls and lists stand at tokens.
 -- Each lemma is of the rule of its name, and goes by cases of what the next token decides.
-use Rattle.std.proofs.Common.{◌≡◌, ℕ, Bool, true, false, Option, Some, None, List, [], ◌∷◌, ◌++◌, if◌then◌else◌}
+use Rattle.std.proofs.Common.{ℕ, Bool, true, false, Option, Some, None, List, [], ◌∷◌, ◌++◌, if◌then◌else◌}
 use Rattle.rhai_lower.specs.Nodes as node
 use Rattle.rhai_grammar.specs.declared.list.AfterPart.TheVariants as after
 use Rattle.rhai_grammar.specs.declared.list.CommaList.TheVariants as lists
@@ -10,10 +10,10 @@ use Rattle.rhai_grammar.specs.declared.role.ItemRole.TheVariants as place
 use Rattle.rhai_grammar.specs.declared.role.Linking.TheVariants as link
 use Rattle.rhai_grammar.specs.declared.role.OperandStart.TheVariants as first
 use Rattle.rhai_grammar.specs.Prelude.{Lexeme, Position, Context, Live, Text, text_of, Node}
-use Rattle.rhai_grammar.specs.Prelude.{Nodes, Properties, may_be_value, module_fault, KeyRole}
-use Rattle.rhai_grammar.specs.Prelude.{FieldsEnd, AKey, NoKey, LinkSpot, last_fault, is_this}
+use Rattle.rhai_grammar.specs.Prelude.{Nodes, Properties, may_be_value, KeyRole}
+use Rattle.rhai_grammar.specs.Prelude.{FieldsEnd, AKey, NoKey, LinkSpot, is_this}
 use Rattle.rhai_grammar.specs.Prelude.{MemberRole, AMember, NoMember, Follower, Operator, Unknown, Other}
-use Rattle.rhai_grammar.specs.Prelude.{may_be_closure, Refusal}
+use Rattle.rhai_grammar.specs.Prelude.{may_be_closure}
 use Rattle.rhai_grammar.specs.Prelude.{made_block}
 use Rattle.rhai_grammar.specs.declared.list.AfterPart.{AfterPart}
 use Rattle.rhai_grammar.specs.declared.list.CommaList.{CommaList}
@@ -25,7 +25,7 @@ use Rattle.rhai_grammar.specs.declared.role.OperandStart.{OperandStart}
 use Rattle.rhai_grammar.specs.Strengths.{continues}
 use Rattle.rhai_reading.specs.Reading as R
 use Rattle.rhai_reading.specs.Reading.{Goal, Val}
-use Rattle.rhai_grammar.specs.Productions.{Production, fault_free, fault_of}
+use Rattle.rhai_grammar.specs.Productions.{Production}
 use Rattle.rhai_grammar.specs.Rules as P
 use Rattle.rhai_grammar.specs.Rules.{production}
 use Rattle.rhai_lower.specs.Nodes.{block_start}
@@ -34,7 +34,6 @@ use Rattle.rhai_grammar.specs.Operators.{joining}
 use Rattle.rhai_grammar.specs.Signs.{effect, plain_sign}
 use Rattle.rhai_grammar.proofs.PositionTrees as T
 use Rattle.rhai_grammar.proofs.PositionTrees.{AllLinks, AllPlaced, Placed}
-use Rattle.rhai_grammar.proofs.PositionWays.{FaultAt}
 use Rattle.rhai_productions.proofs.Standing.{Allows}
 
 -- ---- what is known of goals
@@ -123,11 +122,6 @@ module _ (G : Position → Type 0) where
   parted parts on end after.Close g h = λ n at a. h
   parted parts on end after.Nothing g h = tt
 
-  -- an error that there may be
-  pub fault_at : (f : Option Refusal) → FaultAt G f → fault_free f ≡ false → G (fault_of f).at
-  fault_at None h e = absurd cc
-  fault_at (Some why) h e = h
-
   pub one_more : (before : Nodes) (x : Node) → AllPlaced G before → Placed G x → AllPlaced G (with_node before x)
   one_more node.no_nodes x h k = (k, tt)
   one_more (node.one_node y ys) x h k = (h.0, one_more ys x h.1 k)
@@ -157,7 +151,7 @@ module _ (G : Position → Type 0) where
       λ y k. (
         tt,
         λ ls j.
-            (fault_at (module_fault c w y) (T.of_module G c w y k), T.chains G y ls k j),
+            (T.of_module G c w y k, T.chains G y ls k j),
       ),
     ),
   )
@@ -194,7 +188,7 @@ module _ (G : Position → Type 0) where
 
   pub call_of : (c : Context) (w : Live) (x : Node) → Placed G x → AllowsAs (Placed G) (P.call_of c w x)
   call_of c w x h = (
-    (T.position G x h, λ call k. (fault_at (module_fault c w x) (T.of_module G c w x h), T.position G x h)),
+    (T.position G x h, λ call k. (T.of_module G c w x h, T.position G x h)),
     h,
   )
 
@@ -228,7 +222,7 @@ module _ (G : Position → Type 0) where
     ),
   )
   links w spot link.Dot g = λ n at a v. dotted w spot n at v a g
-  links w spot link.Nothing g = (fault_at (last_fault spot.before) (T.of_last G spot.before g), g)
+  links w spot link.Nothing g = (T.of_last G spot.before g, g)
 
   pub element : (c : Context) (w : Live) (opening : Position) (before : Nodes) (v : ItemRole) → G opening
       → AllowsIn (P.element_by c w opening before v)

@@ -9,7 +9,7 @@ use Rattle.rhai_grammar.specs.Events.{HoldsFirst, Event, Used, HasEnded, ended_i
 use Rattle.rhai_reading.specs.Reading.{Goal, Val}
 use Rattle.rhai_grammar.specs.Productions.{Production}
 use Rattle.rhai_grammar.specs.Forms as F
-use Rattle.rhai_grammar.specs.Forms.{given, take, this, if_so, if_not, choose, here, must, knows, adds, uses}
+use Rattle.rhai_grammar.specs.Forms.{given, take, this, if_so, if_not, choose, here, must, checked, knows, adds, uses}
 use Rattle.rhai_grammar.specs.Forms.{captures, part, literal, apart, in_text, form}
 use Rattle.rhai_grammar.specs.Events as D
 use Rattle.rhai_productions.specs.EventLaws as law
@@ -157,6 +157,7 @@ module _ (rule : (g : Goal) → Production (Val g)) where
     fails_in (here l at f) k s e n t m = missed_or m (absent (D.events_in rule f)) (λ m.
         missed_or m (absent (D.events_in rule f)) (λ m. fails_in f k s e n t m))
     fails_in (must f) k s e n t m = test_or m (absent (D.events_in rule f)) (λ m. fails_in f k s e n t m)
+    fails_in (checked f) k s e n t m = missed_or m (absent (D.events_in rule f)) (λ m. fails_in f k s e n t m)
     fails_in (knows f) k s e n t m = test_or m (absent (D.events_in rule f)) (λ m. fails_in f k s e n t m)
     fails_in (adds {f = x} f) k s e n t m = one x (fails_in f k (adding x s) e n t m.1)
     fails_in (uses {c = c} {u = u} l at f) k s e n t m =
@@ -187,6 +188,7 @@ module _ (rule : (g : Goal) → Production (Val g)) where
     fails_in F.never_here k s e n t m = missed_or m (absent []) (λ m. absurd m)
     fails_in F.take_here k s e n t m = missed_or m (absent []) (λ m. absurd m)
     fails_in F.must_here k s e n t m = test_or m (absent []) (λ m. absurd m)
+    fails_in F.checked_here k s e n t m = missed_or m (absent []) (λ m. absurd m)
     fails_in F.knows_here k s e n t m = test_or m (absent []) (λ m. absurd m)
     fails_in F.uses_here k s e n t m = missed_or m (absent []) (λ m. absurd m)
     fails_in F.captures_here k s e n t m = test_or m (absent []) (λ m. absurd m)

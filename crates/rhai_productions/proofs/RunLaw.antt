@@ -149,7 +149,7 @@ climbed_end c w at parent lhs x given filter k s t is fits m first begins side t
 climbed_by : (i : ℕ) → Law i → (c : Context) (w : Live) (at : Position) (parent : ℕ) (lhs x : Node) (o : ℕ × Bool)
     (b : Bool) → continues parent o.0 o.1 ≡ b
     → (f : Filled production (BinaryOp c w at parent lhs)
-    (if b then P.binary_on c w at parent lhs o else Rattle.rhai_grammar.specs.Productions.give lhs) x)
+    (if b then P.binary_on c w at parent lhs o.0 else Rattle.rhai_grammar.specs.Productions.give lhs) x)
     → height_in production f ≤ i → (filter : ExprFilter) → c.filter ≡ filter → (k : Demands) (s t : Point)
     → Some o ≡ operator_in (follower_of filter (op_at s)) → verdict (operator_known filter) (op_at s) ≡ Fine
     → Met (demanded production f k) s t

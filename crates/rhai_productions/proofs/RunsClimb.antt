@@ -4,7 +4,7 @@ use Rattle.rhai_grammar.specs.Prelude.{Lexeme, Position, Item, Point, past, code
 use Rattle.rhai_grammar.specs.Prelude.{position_of, Demands, ◌▸◌, Test, Next, Met, verdict, Fine, follower_of, Follower}
 use Rattle.rhai_grammar.specs.Prelude.{Operator, Unknown, Other, boolean_holds, mismatched}
 use Rattle.rhai_grammar.specs.Causes as cause
-use Rattle.rhai_grammar.specs.Strengths.{is_operator, strength, is_right, left_of}
+use Rattle.rhai_grammar.specs.Strengths.{is_operator, strength, left_of}
 use Rattle.rhai_grammar.specs.Verdicts.{operator_known, known_follower, run_ends, ended_follower, raise_due}
 use Rattle.rhai_grammar.specs.declared.filter.ExprFilter.{ExprFilter}
 use Rattle.rhai_grammar.specs.Strengths.{continues}
@@ -86,7 +86,7 @@ next_form filter s e =
 -- a run ends
 end_if : (c : Context) (w : Live) (at : Position) (parent : ℕ) (lhs : Node) (o : ℕ × Bool) (b : Bool) (s : Point)
     → b ≡ false
-    → FitsHere (λ (f : Filled production (BinaryOp c w at parent lhs) (if b then P.binary_on c w at parent lhs o
+    → FitsHere (λ (f : Filled production (BinaryOp c w at parent lhs) (if b then P.binary_on c w at parent lhs o.0
     else S.give lhs) lhs) k.
     demanded production f k) s
 end_if c w at parent lhs o false s e = record { it = given; fits = λ k t m. m }
@@ -116,8 +116,9 @@ last_form c w at parent lhs s e off =
 -- a run goes on
 on_if : (c : Context) (w : Live) (at : Position) (parent : ℕ) (lhs z : Node) (o : ℕ × Bool) (b : Bool) (s : Point)
     → b ≡ true
-    → (f : Filled production (BinaryOp c w at parent lhs) (P.binary_on c w at parent lhs o) z)
-    → (g : Filled production (BinaryOp c w at parent lhs) (if b then P.binary_on c w at parent lhs o else S.give lhs) z)
+    → (f : Filled production (BinaryOp c w at parent lhs) (P.binary_on c w at parent lhs o.0) z)
+    → (g : Filled production (BinaryOp c w at parent lhs) (if b then P.binary_on c w at parent lhs o.0
+    else S.give lhs) z)
     × ((k : Demands) (t : Point) → Met (demanded production f k) s t → Met (demanded production g k) s t)
 on_if c w at parent lhs z o true s e f = (f, λ k t m. m)
 on_if c w at parent lhs z o false s e f = absurd cc
@@ -125,7 +126,7 @@ on_if c w at parent lhs z o false s e f = absurd cc
 on_by : (c : Context) (w : Live) (at : Position) (parent : ℕ) (lhs z : Node) (fo : Follower) (s : Point)
     → is_operator fo ≡ true
     → next_continues parent fo ≡ true
-    → (f : Filled production (BinaryOp c w at parent lhs) (P.binary_on c w at parent lhs (strength fo, is_right fo)) z)
+    → (f : Filled production (BinaryOp c w at parent lhs) (P.binary_on c w at parent lhs (strength fo)) z)
     → (g : Filled production (BinaryOp c w at parent lhs) (P.binary_of c w at parent lhs (operator_in fo)) z)
     × ((k : Demands) (t : Point) → Met (demanded production f k) s t → Met (demanded production g k) s t)
 on_by c w at parent lhs z (Operator n right) s is e f =
@@ -137,10 +138,8 @@ on_form : (c : Context) (w : Live) (at : Position) (parent : ℕ) (lhs z : Node)
     → verdict (operator_known c.filter) (op_at s) ≡ Fine
     → is_operator (follower_of c.filter (op_at s)) ≡ true → next_continues parent (follower_of c.filter (op_at s))
     ≡ true
-    → (f : Filled production (BinaryOp c w at parent lhs) (P.binary_on c w at parent lhs (
-      strength (follower_of c.filter (op_at s)),
-      is_right (follower_of c.filter (op_at s)),
-    )) z)
+    → (f : Filled production (BinaryOp c w at parent lhs) (P.binary_on c w at parent lhs
+    (strength (follower_of c.filter (op_at s)))) z)
     → (g : Form production (BinaryOp c w at parent lhs) z)
     × ((k : Demands) (t : Point) → Met (demanded production f k) s t → Met (demands production g k) s t)
 on_form c w at parent lhs z s e is on f =
@@ -251,10 +250,8 @@ begins {filter = filter} {w = w} {side = side} (binary {c = c} {d = d} {p = p} {
           (sym fc) b.known) in
           let known : verdict (operator_known c.filter) (op_at a.end) ≡ Fine =
           subst (λ f. verdict (operator_known f) (op_at a.end) ≡ Fine) (sym fc) a.ends in
-          let whole : Filled production (BinaryOp c w p parent l) (P.binary_on c w p parent l (
-            strength e,
-            is_right e,
-          )) z =
+          let whole : Filled production (BinaryOp c w p parent l) (P.binary_on c w p parent l
+          (strength e)) z =
           this op at (part b.y b.operand (part (operator_in (follower_of c.filter (op_at b.rest))) next.it
           (must (part r tight.0 (
           must (must (part z g given))))))) in

@@ -6,7 +6,8 @@ use Rattle.rhai_reading.specs.Reading as R
 use Rattle.rhai_reading.specs.Reading.{Goal, Val}
 use Rattle.rhai_grammar.specs.Productions.{Production}
 use Rattle.rhai_grammar.specs.Rules.{production}
-use Rattle.rhai_grammar.specs.Forms.{Form, Filled, given, take, this, if_so, if_not, choose, here, must, knows, adds}
+use Rattle.rhai_grammar.specs.Forms.{Form, Filled, given, take, this, if_so, if_not, choose, here, must, checked, knows}
+use Rattle.rhai_grammar.specs.Forms.{adds}
 use Rattle.rhai_grammar.specs.Forms.{uses, captures, part, literal, apart, in_text, form}
 use Rattle.rhai_productions.specs.Shaped.{Alike, AlikeIn, lexemes}
 use Rattle.rhai_productions.specs.ChainForms.{AllAlike, Piece, as_pieces, piece, pieces, pieces_in, token}
@@ -45,6 +46,7 @@ mutual
   same_tokens_in (choose l at f) (choose m pos e) same = same_tokens_in f e same.1
   same_tokens_in (here l at f) (here m pos e) same = same_tokens_in f e same
   same_tokens_in (must f) (must e) same = same_tokens_in f e same
+  same_tokens_in (checked f) (checked e) same = same_tokens_in f e same
   same_tokens_in (knows f) (knows e) same = same_tokens_in f e same
   same_tokens_in (adds f) (adds e) same = same_tokens_in f e same
   same_tokens_in (uses l at f) (uses m pos e) same = same_tokens_in f e same.1
@@ -107,6 +109,7 @@ mutual
   tokens_in (choose l at f) = tokens_in f
   tokens_in (here l at f) = tokens_in f
   tokens_in (must f) = tokens_in f
+  tokens_in (checked f) = tokens_in f
   tokens_in (knows f) = tokens_in f
   tokens_in (adds f) = tokens_in f
   tokens_in (uses l at f) = tokens_in f

@@ -7,7 +7,7 @@ use Rattle.rhai_grammar.specs.Prelude.{Use, Ended, Library, Fine, Wrong, Blames,
 use Rattle.rhai_grammar.specs.Prelude.{is_at_last, Point, past, next_at, adding, capturing, with_captured, apart}
 use Rattle.rhai_grammar.specs.Prelude.{closure_count, is_due, not_due, unexpected, StandsAtLast, as_literal}
 use Rattle.rhai_grammar.specs.declared.due.DueToken.TheVariants.{RightBrace}
-use Rattle.rhai_reading.specs.Reading.{Goal, Val, Prog, Ret, Fail, Take, body}
+use Rattle.rhai_reading.specs.Reading.{Goal, Val, Prog, Ret, Fail, Take, run, run_from}
 use Rattle.rhai_reading.specs.Histories.{State, Outcome, Done, Refused, Unfinished, calls, recast}
 use Rattle.rhai_grammar.specs.Goals.{is_counted}
 use Rattle.rhai_reading.proofs.Joins.{cursor}
@@ -21,11 +21,10 @@ use Rattle.rhai_reading.proofs.Shows.{Histories, Shows, Tells, Ensures, fine, il
 use Rattle.rhai_reading.proofs.Shows.{know, add, note, either, text_taken, text_at, called, called_apart}
 use Rattle.rhai_reading.proofs.Shows.{called_literal}
 use Rattle.rhai_grammar.specs.Productions.{Production, View, Seen, view}
-use Rattle.rhai_productions.specs.Readers.{run_from, run}
 use Rattle.rhai_grammar.specs.Productions as S
-use Rattle.rhai_productions.specs.Agreement.{Agrees, histories}
+use Rattle.rhai_grammar.specs.Rules.{production}
 use Rattle.rhai_grammar.specs.Forms as F
-use Rattle.rhai_productions.specs.Tidiness.{Tidy}
+use Rattle.rhai_productions.specs.Tidiness.{Early, Tidy}
 use Rattle.rhai_grammar.specs.Forms.{any_token, wanted_or, only_if, only_if_not, may_use, text_or}
 
 module _ (rule : (g : Goal) → Production (Val g)) where
@@ -200,6 +199,14 @@ module _ (rule : (g : Goal) → Production (Val g)) where
         (λ is. then_ h p (S.must t e p) s s (λ tree f. (F.must f, λ j o w. is ▹ w)) r)
         (λ other. halt h (S.must t e p) s b F.must_here early (lost (other, refl)))
 
+    free : (h : Goal) (p : Production (Val h)) (s : Point) (b : Bool) {q : Prog (Val h)} → Goes call h p s q s b
+        → Goes call h (S.checked None p) s q s b
+    free h p s b r = then_ h p (S.checked None p) s s (λ tree f. (F.checked f, λ j o w. refl ▹ w)) r
+
+    faulty : (h : Goal) (e : Refusal) (p : Production (Val h)) → Early (Some e) → (s : Point) (b : Bool)
+        → Goes call h (S.checked (Some e) p) s (Fail e) s b
+    faulty h e p early s b = halt h (S.checked (Some e) p) s b F.checked_here early (lost refl)
+
     tested_in : (h : Goal) (t : Library → Bool) (e : Refusal) (p : Production (Val h)) → is_at_last e.cause ≡ false
         → (q : Prog (Val h)) (s : Point) (b : Bool) → Goes call h p s q s b
         → Goes call h (S.knows t e p) s (if t s.library then q else Fail e) s b
@@ -307,6 +314,11 @@ module _ (rule : (g : Goal) → Production (Val g)) where
             new = λ s b. tested h t e p tidy.0 _ s b (r.new s b);
             seen = λ s m. tested h t e p tidy.0 _ s true (r.seen s m);
           }
+      both h (S.checked None p) tidy =
+          let r = both h p tidy.1 in
+          record { new = λ s b. free h p s b (r.new s b); seen = λ s m. free h p s true (r.seen s m) }
+      both h (S.checked (Some e) p) tidy =
+          record { new = λ s b. faulty h e p tidy.0 s b; seen = λ s m. faulty h e p tidy.0 s true }
       both h (S.knows t e p) tidy =
           let r = both h p tidy.1 in
           record {
@@ -355,12 +367,9 @@ module _ (rule : (g : Goal) → Production (Val g)) where
           λ p l q. both h (k p l q) (tidy p l q) in
           record { new = λ s b. text_on h k rest s b; seen = λ s m. text_on h k rest s true }
 
-  -- Where each reading program is that of its production, what it comes to is the tree of a form that is written
-  -- there, or an open form misses a demand.
-  pub sound : ((g : Goal) → Agrees histories (run (rule g)) (body g)) → ((g : Goal) → Tidy (rule g)) → (n : ℕ)
-      (g : Goal) (s : Point) (b : Bool) → Tells (Read g (rule g) s) (Halts g (rule g) s) (calls n g (at s b))
-  sound same tidy zero g s b = record { told = tt }
-  sound same tidy (suc n) g s b =
-      let r = (both (calls n) (sound same tidy n) g (rule g) (tidy g)).new s b in
-      subst (λ o. Tells (Read g (rule g) s) (Halts g (rule g) s) o) ((same g).on (calls n) (at s b))
-      (record { told = r.shown })
+-- What is read for a goal is the tree of a form that is written there, or an open form misses a demand.
+pub sound : ((g : Goal) → Tidy (production g)) → (n : ℕ) (g : Goal) (s : Point) (b : Bool)
+    → Tells (Read production g (production g) s) (Halts production g (production g) s) (calls n g (at s b))
+sound tidy zero g s b = record { told = tt }
+sound tidy (suc n) g s b =
+    record { told = ((both production (calls n) (sound tidy n) g (production g) (tidy g)).new s b).shown }

@@ -3,18 +3,19 @@ use Rattle.std.proofs.Common.{◌≡◌, ◌⊎◌, inl, inr, ℕ, Bool, true, f
 use Rattle.std.proofs.Common.{if◌then◌else◌}
 use Rattle.rhai_grammar.specs.Prelude.{Lexeme, Position, Mode, code, text, Point, Use, Library, Refusal, Verdict, Cause}
 use Rattle.rhai_grammar.specs.Prelude.{Demands, Nothing, Missed, is_text, Fine, Wrong, Blames, Otherwise, is_due}
-use Rattle.rhai_grammar.specs.Prelude.{not_due, unexpected, Test, ◌▸◌}
+use Rattle.rhai_grammar.specs.Prelude.{not_due, unexpected, Test, ◌▸◌, NoFault}
 use Rattle.rhai_grammar.specs.Verdicts.{anything}
 use Rattle.rhai_grammar.specs.declared.due.DueToken.TheVariants.{RightBrace}
 use Rattle.rhai_grammar.proofs.PositionSteps.{AllUses, Ends, Modes}
 use Rattle.rhai_grammar.proofs.PositionWays.{BlamesAt, Places, Refusing, AtTokens, after, ahead, apart_from, done, here}
-use Rattle.rhai_grammar.proofs.PositionWays.{literally, next, shape, test_in, tok}
+use Rattle.rhai_grammar.proofs.PositionWays.{literally, next, shape, test_in, tok, FaultAt}
 use Rattle.rhai_grammar.proofs.PositionWays as W
 use Rattle.rhai_reading.specs.Reading.{Goal, Val}
 use Rattle.rhai_grammar.specs.Productions.{Production, Seen, view}
 use Rattle.rhai_grammar.specs.Productions as S
 use Rattle.rhai_grammar.specs.Forms as F
-use Rattle.rhai_grammar.specs.Forms.{given, take, this, if_so, if_not, choose, must, knows, adds, uses, captures}
+use Rattle.rhai_grammar.specs.Forms.{given, take, this, if_so, if_not, choose, must, checked, knows, adds, uses}
+use Rattle.rhai_grammar.specs.Forms.{captures}
 use Rattle.rhai_grammar.specs.Forms.{part, literal, apart, in_text, form}
 use Rattle.rhai_productions.proofs.TreesIf.{RightIf}
 
@@ -46,7 +47,9 @@ module _ (rule : (g : Goal) → Production (Val g)) where
     modes_in (choose l at f) k n h e = (refl, modes_in f k n h e)
     modes_in (F.here l at f) k n h e = (refl, modes_in f k n h e)
     modes_in (must f) k n h e = modes_in f k n h e
+    modes_in (checked f) k n h e = modes_in f k n h e
     modes_in F.must_here k n h e = e
+    modes_in F.checked_here k n h e = e
     modes_in (knows f) k n h e = modes_in f k n h e
     modes_in F.knows_here k n h e = e
     modes_in (adds f) k n h e = modes_in f k n h e
@@ -77,6 +80,7 @@ module _ (G : Position → Type 0) (Wants : Goal → Type 0) (Right : (g : Goal)
   Allows R (S.if_next t p q) = Allows R p × Allows R q
   Allows R (S.here k) = (at : Position) → G at → Allows R (k at)
   Allows R (S.must b e p) = (b ≡ false → G e.at) × Allows R p
+  Allows R (S.checked e p) = FaultAt G e × Allows R p
   Allows R (S.knows t e p) = G e.at × Allows R p
   Allows R (S.adds f p) = Allows R p
   Allows R (S.uses v ok e c u k) = G e.at × G u.at × ((b : Bool) → Allows R (k b))
@@ -144,6 +148,30 @@ module _ (G : Position → Type 0) (Wants : Goal → Type 0) (Right : (g : Goal)
     ];
   }
 
+  -- a fault that stands at an allowed position
+  no_fault : {f : Option Refusal} {P : Type 0} {ds k : Demands} → FaultAt G f → AtTokens G P ds k
+      → AtTokens G P (NoFault f ▸ ds) k
+  no_fault {f = f} g h = record {
+    did = λ n t o r. h.did n t o (record {
+      start = r.start;
+      mode = r.mode;
+      modes = r.modes;
+      used = r.used;
+      met = r.met.1;
+    });
+    stopped = λ e n t o r. elim r.missed [
+      | inl a ↦ inl (subst (FaultAt G) a.0 g)
+      | inr b ↦ h.stopped e n t o (record {
+        start = r.start;
+        mode = r.mode;
+        last = r.last;
+        modes = r.modes;
+        used = r.used;
+        missed = b.1;
+      })
+    ];
+  }
+
   -- what is demanded after it: nothing, where there is no tree
   abbrev more_if : {A : Type 0} → Option A → Demands → Demands
   more_if (Some x) k = k
@@ -172,7 +200,9 @@ module _ (G : Position → Type 0) (Wants : Goal → Type 0) (Right : (g : Goal)
       stands_in (choose {v = v} l at f) k h = next any (ahead no_other (λ a. stands_in f k (h (view v l))))
       stands_in (F.here l at f) k h = next any (ahead no_other (λ a. stands_in f k (h at a)))
       stands_in (must f) k h = test h.0 (stands_in f k h.1)
+      stands_in (checked f) k h = no_fault h.0 (stands_in f k h.1)
       stands_in F.must_here k h = test h.0 here
+      stands_in F.checked_here k h = no_fault h.0 here
       stands_in (knows f) k h = test_in h.0 (stands_in f k h.1)
       stands_in F.knows_here k h = test_in h.0 here
       stands_in (adds f) k h = W.adds (stands_in f k h)

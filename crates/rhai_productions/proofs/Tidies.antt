@@ -16,11 +16,11 @@ use Rattle.rhai_grammar.specs.declared.role.ItemRole.TheVariants as place
 use Rattle.rhai_grammar.specs.declared.role.Linking.TheVariants as link
 use Rattle.rhai_grammar.specs.declared.role.OperandStart.TheVariants as first
 use Rattle.rhai_grammar.specs.declared.role.StatementStart.TheVariants as start
-use Rattle.rhai_grammar.specs.Prelude.{Lexeme, Position, Context, Live, Text, text_of, Node, target_fault}
-use Rattle.rhai_grammar.specs.Prelude.{is_constant_use, is_name, guard_fault, iterated_fault, ends_itself, with_kept}
-use Rattle.rhai_grammar.specs.Prelude.{Nodes, Properties, has_single_blocks, may_be_value, module_fault, KeyRole}
-use Rattle.rhai_grammar.specs.Prelude.{FieldsEnd, AKey, NoKey, LinkSpot, index_refusal, last_fault, is_this}
-use Rattle.rhai_grammar.specs.Prelude.{MemberRole, AMember, NoMember, arm_fault, Follower, Operator, Unknown, Other}
+use Rattle.rhai_grammar.specs.Prelude.{Lexeme, Position, Context, Live, Text, text_of, Node}
+use Rattle.rhai_grammar.specs.Prelude.{is_constant_use, is_name, ends_itself, with_kept}
+use Rattle.rhai_grammar.specs.Prelude.{Nodes, Properties, has_single_blocks, may_be_value, KeyRole}
+use Rattle.rhai_grammar.specs.Prelude.{FieldsEnd, AKey, NoKey, LinkSpot, is_this}
+use Rattle.rhai_grammar.specs.Prelude.{MemberRole, AMember, NoMember, Follower, Operator, Unknown, Other}
 use Rattle.rhai_grammar.specs.Prelude.{may_be_closure, Comment, Collected, Use}
 use Rattle.rhai_grammar.specs.declared.role.AfterStatement.{AfterStatement}
 use Rattle.rhai_grammar.specs.declared.role.Closing.{Closing}
@@ -44,7 +44,7 @@ use Rattle.rhai_grammar.specs.Rules as P
 use Rattle.rhai_grammar.specs.Rules.{production}
 use Rattle.rhai_productions.specs.Tidiness.{Tidy}
 use Rattle.rhai_productions.proofs.Constructs.{tidy_construct}
-use Rattle.rhai_productions.proofs.Faults.{no_fault, last_early, index_early, module_early, guard_early, iterated_early}
+use Rattle.rhai_productions.proofs.Faults.{last_early, index_early, module_early, guard_early, iterated_early}
 use Rattle.rhai_productions.proofs.Faults.{target_early, fault_early, bang_early}
 
 -- ---- the productions
@@ -55,7 +55,7 @@ by_either false p q g h = h
 
 operand : (c : Context) (w : Live) (v : Beginning) → Tidy (P.operand_by c w v)
 operand c w begin.Sign = λ l at. (refl, λ x. (refl, tt))
-operand c w _ = λ x y ls. (no_fault (module_fault c w y) (module_early c w y), tt)
+operand c w _ = λ x y ls. (module_early c w y, tt)
 
 right : (c : Context) (w : Live) (v : OperandStart) → Tidy (P.right_by c w v)
 right c w first.Omitted = λ at. tt
@@ -85,7 +85,7 @@ called c w name q calls_by.Bang = λ l at v. (bang_early (is_list v) at, given c
 called c w name q v = given c w name false v
 
 call_of : (c : Context) (w : Live) (x : Node) → Tidy (P.call_of c w x)
-call_of c w x = (λ call. (no_fault (module_fault c w x) (module_early c w x), tt), tt)
+call_of c w x = (λ call. (module_early c w x, tt), tt)
 
 dotted : (w : Live) (spot : LinkSpot) (l : Lexeme) (at : Position) (v : MemberRole) → Tidy (P.dotted_by w spot l at v)
 dotted w spot l at AMember = (refl, λ x ls. tt)
@@ -94,7 +94,7 @@ dotted w spot l at (NoMember why) = tt
 links : (w : Live) (spot : LinkSpot) (v : Linking) → Tidy (P.links_by w spot v)
 links w spot link.Bracket = λ l at. (refl, (refl, λ x ls. tt))
 links w spot link.Dot = λ l at v. dotted w spot l at v
-links w spot link.Nothing = (no_fault (last_fault spot.before) (last_early spot.before), tt)
+links w spot link.Nothing = (last_early spot.before, tt)
 
 parted : {A : Type 0} (parts : CommaList) (on end : Production A) (v : AfterPart) → Tidy on → Tidy end
     → Tidy (P.parted parts on end v)
@@ -233,7 +233,7 @@ tidy (R.Primary c w) = λ v. primary c w v
 tidy (R.Called c w name q) = λ v. called c w name q v
 tidy (R.Path w x) = λ l at n p. (λ y. tt, tt)
 tidy (R.Links w spot) = λ v. links w spot v
-tidy (R.Index c w indexed) = λ x. (no_fault (index_refusal indexed x) (index_early indexed x), λ l at. tt)
+tidy (R.Index c w indexed) = λ x. (index_early indexed x, λ l at. tt)
 tidy (R.Member c w) = λ n at. (λ call. tt, by_either (is_name n) _ _ (tt, tt) (refl, tt))
 tidy (R.Postfix c w x) = (λ y. call_of c w y, call_of c w x)
 tidy (R.Arguments c w at) = (tt, (λ l p. tt, (refl, λ ns. tt)))
@@ -248,8 +248,7 @@ tidy (R.NextOperator filter) = λ v. follower v
 tidy (R.BinaryOp c w at parent lhs) = λ v. binary c w at parent lhs v
 tidy (R.ExprStatement c w) = λ x. (
   λ l at y. (
-    no_fault (target_fault (is_constant_use w.slots x) l at x)
-        (target_early (is_constant_use w.slots x) l at x),
+    target_early (is_constant_use w.slots x) l at x,
     tt,
   ),
   tt,
@@ -268,8 +267,8 @@ tidy (R.Block c w at) = λ fs b. tt
 tidy (R.BlockEnd at fs) = λ l p. tt
 tidy (R.Construct c w at kind) = tidy_construct c w at kind
 tidy (R.Braced c w at) = λ opening. (refl, λ b. tt)
-tidy (R.Guard c w) = (tt, λ x. (no_fault (guard_fault x) (guard_early x), (tt, tt)))
-tidy (R.Iterated c w) = (tt, λ x. (no_fault (iterated_fault x) (iterated_early x), tt))
+tidy (R.Guard c w) = (tt, λ x. (guard_early x, (tt, tt)))
+tidy (R.Iterated c w) = (tt, λ x. (iterated_early x, tt))
 tidy (R.Conditional c w at) = λ x b e. tt
 tidy (R.Branch c w at) = (λ l p. (λ m q. (refl, λ f. tt), λ b. tt), tt)
 tidy R.LoopNames = (λ l at m p n q k r. (refl, λ x y z a. tt), λ l at m p. tt)
@@ -277,7 +276,7 @@ tidy R.Catch = λ l at. (λ m p n q k r. tt, tt)
 tidy R.DoEnd = λ v. do_end_tidy v
 tidy (R.Arms c w before) = λ v. arms c w before v
 tidy (R.Arm c w before) = λ xs guard l at does.
-    (no_fault (arm_fault before xs) (fault_early (arm_count before.arms) before xs), λ end. tt)
+    (fault_early (arm_count before.arms) before xs, λ end. tt)
 tidy (R.DefaultArm c w default) = (tt, λ l at does end close. tt)
 tidy (R.Cases c w before) = λ x. (λ l at r. tt, tt)
 tidy (R.Case c w) = λ x. tt

@@ -7,10 +7,10 @@ use Rattle.rhai_grammar.specs.CaseValues.{are_literal_values}
 use Rattle.rhai_grammar.specs.Prelude.{AKey, AMember, Context, Demands, Ended, FieldsEnd, Fine, Follower, Item, KeyRole}
 use Rattle.rhai_grammar.specs.Prelude.{Lexeme, Link, LinkSpot, Live, MemberRole, Met, Node, Nodes, NoKey, NoMember}
 use Rattle.rhai_grammar.specs.Prelude.{Operator, Other, Point, Position, Properties, Taken, Text, Unknown, bracket_link}
-use Rattle.rhai_grammar.specs.Prelude.{call_tree, calling, calls, chained, code, effect, excludes_use, is_this}
+use Rattle.rhai_grammar.specs.Prelude.{call_tree, calling, calls, code, effect, excludes_use, is_this}
 use Rattle.rhai_grammar.specs.Prelude.{is_variable, item, joining, linking, may_be_called, may_be_closure, may_be_value}
-use Rattle.rhai_grammar.specs.Prelude.{member_link, module_fault, name_tree, next_at, no_nodes, plain_sign, qualifies}
-use Rattle.rhai_grammar.specs.Prelude.{spot_after_operand, text_of}
+use Rattle.rhai_grammar.specs.Prelude.{member_link, name_tree, next_at, no_nodes, plain_sign, qualifies}
+use Rattle.rhai_grammar.specs.Prelude.{text_of}
 use Rattle.rhai_grammar.specs.Trees.{function_called, named_by, node_count}
 use Rattle.rhai_grammar.specs.declared.list.AfterPart.{AfterPart}
 use Rattle.rhai_grammar.specs.declared.list.AfterPart.TheVariants as after
@@ -32,7 +32,7 @@ use Rattle.rhai_grammar.specs.Strengths.{continues}
 use Rattle.rhai_reading.specs.Reading as R
 use Rattle.rhai_reading.specs.Reading.{Goal, Val}
 use Rattle.rhai_reading.proofs.Looks.{fine, no_other, op_at}
-use Rattle.rhai_grammar.specs.Productions.{Production, part}
+use Rattle.rhai_grammar.specs.Productions.{Production}
 use Rattle.rhai_grammar.specs.Rules as P
 use Rattle.rhai_grammar.specs.Rules.{production}
 use Rattle.rhai_grammar.specs.Forms as F
@@ -145,13 +145,9 @@ links_begin : (x : Node) (w : Live) (spot : LinkSpot) (v : Linking) {ls : List L
     → is_called_by (spelling_in production f ++ []) x ≡ (is_variable x && excludes_use (op_at s))
 links_begin x w spot link.Bracket (F.this l p f) k s t m e = by_next x l p s m.1.0
 links_begin x w spot link.Dot (F.this l p f) k s t m e = by_next x l p s m.1.0
-links_begin x w spot link.Nothing (F.must F.given) k s t m e = sym e
+links_begin x w spot link.Nothing (F.checked F.given) k s t m e = sym e
 
-abbrev after_operand : (c : Context) (w : Live) (x : Node) → Production Node
-after_operand c w x = part (R.Postfix c w x) (λ y. part (R.Links w (spot_after_operand c y)) (λ ls.
-    P.tested (chained y ls) (module_fault c w y)))
-
-followed : (c : Context) (w : Live) (x : Node) (n : Lexeme) → IsFollowed (R.Operand c w) (after_operand c w x) x n
+followed : (c : Context) (w : Live) (x : Node) (n : Lexeme) → IsFollowed (R.Operand c w) (P.operand_ends c w x) x n
 followed c w x n y (F.part z (F.form (F.if_so (F.part q (F.form (F.this l at f)) rest))) more) k s t m e =
     by_next x l at s m.1.1.0 ∙ ap (λ i. is_variable x && excludes_use i) e
 followed c w x n y (F.part z (F.form (F.if_not (F.if_so (F.part q (F.form (F.choose l at f)) rest)))) more) k s t m e =
@@ -162,7 +158,7 @@ followed c w x n y (F.part z (F.form (F.if_not (F.if_so (F.part q (F.form (F.cho
     m.1.1.1.1
     ∙ ap (λ i. is_variable x && excludes_use i) e
 followed c w x n y (F.part z (F.form (F.if_not (F.if_not F.given))) (F.part ls (F.form (F.choose l at f))
-    (F.must F.given))) k s t m e =
+    (F.checked F.given))) k s t m e =
     let p = fine (F.only_if_not (λ token. is_variable x && qualifies token)) (op_at s) m.0 in
     let q = fine (F.only_if_not (λ token. is_variable x && calls token)) (op_at s) m.1.0 in
     let no_path = (no_other (is_variable x && qualifies (op_at s)) {v = Fine} p.1).0 in

@@ -1,6 +1,6 @@
 -- What each production keeps of the names that are used holds of each form that fits. One induction over forms.
 use Rattle.std.proofs.Common.{◌≡◌, ◌∙◌, ℕ, Bool, true, false, ◌&&◌, ◌||◌, List, [], ◌∷◌, ◌++◌, map, refl, sym, ap, ap₂}
-use Rattle.std.proofs.Common.{Some, subst, append_assoc, append-nil, if◌then◌else◌}
+use Rattle.std.proofs.Common.{Some, subst, append_assoc, append-nil, if◌then◌else◌, None}
 use Rattle.std.proofs.lemmas.List.{map-append}
 use Rattle.std.specs.Option.{is_some}
 use Rattle.rhai_grammar.specs.Prelude.{Demands, Ended, Fine, Item, Lexeme, Met, Node, Nothing, Point, Position, Text}
@@ -15,7 +15,7 @@ use Rattle.rhai_grammar.specs.Productions as S
 use Rattle.rhai_grammar.specs.Rules.{production}
 use Rattle.rhai_grammar.specs.Forms as F
 use Rattle.rhai_grammar.specs.Forms.{adds, apart, captures, choose, form, given, here, if_not, if_so, in_text}
-use Rattle.rhai_grammar.specs.Forms.{knows, literal, must, part, take, this, uses}
+use Rattle.rhai_grammar.specs.Forms.{knows, literal, must, checked, part, take, this, uses}
 use Rattle.rhai_grammar.specs.Events.{Event, ended_in, ends_only, events, events_in, spelling_in}
 use Rattle.rhai_productions.specs.WrittenFunctions.{WrittenFunction, functions_in, functions_of, own_names}
 use Rattle.rhai_productions.specs.WrittenUses.{IsEnd, IsUse, UseOrEnd, called_in, ends_of, free_names, is_called_by}
@@ -126,6 +126,7 @@ module _ (Right : (g : Goal) → Val g → (first next : Lexeme) → (names : Li
   Keeps h R (S.choose v k) n own names = (y : Seen v) → view v n ≡ y → Keeps h R (k y) n own names
   Keeps h R (S.here k) n own names = (at : Position) → Keeps h R (k at) n own names
   Keeps h R (S.must b e p) n own names = b ≡ true → Keeps h R p n own names
+  Keeps h R (S.checked e p) n own names = e ≡ None → Keeps h R p n own names
   Keeps h R (S.knows t e p) n own names = Keeps h R p n own names
   Keeps h R (S.adds f p) n own names = Good f own × Keeps h R p n own names
   Keeps h R (S.uses v ok e c u k) n own names =
@@ -240,6 +241,7 @@ module _ (Right : (g : Goal) → Val g → (first next : Lexeme) → (names : Li
           keeps f a own names k s t m.1.1 (h (view v l) (ap (λ (i : Item). view v i.lexeme) m.1.0))
       keeps (here l at f) a own names k s t m h = keeps f a own names k s t m.1.1 (h at)
       keeps (must f) a own names k s t m h = keeps f a own names k s t m.1 (h m.0)
+      keeps (checked f) a own names k s t m h = keeps f a own names k s t m.1 (h m.0)
       keeps (knows f) a own names k s t m h = keeps f a own names k s t m.1 h
       keeps (adds {f = x} f) a own names k s t m h =
           let r = keeps f a own names k (adding x s) t m.1 h.1 in
@@ -313,6 +315,7 @@ mutual
   ends (choose l at f) own = ends f own
   ends (here l at f) own = ends f own
   ends (must f) own = ends f own
+  ends (checked f) own = ends f own
   ends (knows f) own = ends f own
   ends (adds {f = x} f) own = ap (λ xs. x ∷ xs) (ends f own)
   ends (uses l at f) own = ends f own

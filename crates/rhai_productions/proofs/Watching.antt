@@ -227,6 +227,7 @@ mutual
   joined_in within may (D.choose {v = v} l at f) q = joined_in within may f (q (view v l))
   joined_in within may (D.here l at f) q = joined_in within may f (q at)
   joined_in within may (D.must f) q = joined_in within may f q
+  joined_in within may (D.checked f) q = joined_in within may f q
   joined_in within may (D.knows f) q = joined_in within may f q
   joined_in within may (D.adds {f = x} f) q =
       ended within x (F.events_in production f) (uses_of production f) (joined_in within may f q)
@@ -303,6 +304,7 @@ Silent (S.if_next t p q) = Silent p × Silent q
 Silent (S.choose v k) = (y : S.Seen v) → Silent (k y)
 Silent (S.here k) = (at : Position) → Silent (k at)
 Silent (S.must b e p) = Silent p
+Silent (S.checked e p) = Silent p
 Silent (S.knows t e p) = Silent p
 Silent (S.adds f p) = ⊥
 Silent (S.uses excludes ok e captured u k) = ⊥
@@ -354,6 +356,7 @@ mutual
   nothing_of (D.choose {v = v} l at f) q = nothing_of f (q (view v l))
   nothing_of (D.here l at f) q = nothing_of f (q at)
   nothing_of (D.must f) q = nothing_of f q
+  nothing_of (D.checked f) q = nothing_of f q
   nothing_of (D.knows f) q = nothing_of f q
   nothing_of (D.adds f) q = absurd q
   nothing_of (D.uses l at f) q = absurd q

@@ -10,7 +10,7 @@ use Rattle.rhai_grammar.specs.declared.due.DueToken.TheVariants.{RightBrace}
 use Rattle.rhai_reading.specs.Reading.{Goal, Val}
 use Rattle.rhai_grammar.specs.Productions.{Production}
 use Rattle.rhai_grammar.specs.Forms as F
-use Rattle.rhai_grammar.specs.Forms.{given, take, this, if_so, if_not, choose, here, must, knows, adds, uses}
+use Rattle.rhai_grammar.specs.Forms.{given, take, this, if_so, if_not, choose, here, must, checked, knows, adds, uses}
 use Rattle.rhai_grammar.specs.Forms.{captures, part, literal, apart, in_text, form}
 use Rattle.rhai_grammar.specs.Events as D
 use Rattle.rhai_productions.specs.EventLaws as law
@@ -113,6 +113,7 @@ module _ (rule : (g : Goal) → Production (Val g)) where
     begins_in (choose l at f) ts c = begins_in f ts c
     begins_in (here l at f) ts c = begins_in f ts c
     begins_in (must f) ts c = begins_in f ts c
+    begins_in (checked f) ts c = begins_in f ts c
     begins_in (knows f) ts c = begins_in f ts c
     begins_in (adds f) ts c = begins_in f ts c
     begins_in (uses l at f) ts c = begins_in f ts c
@@ -157,6 +158,7 @@ module _ (rule : (g : Goal) → Production (Val g)) where
         let n = same_next (begins_in f ts c) a in
         stays (again_in f k ts c s t o m.1.1 a) (λ e r. (fits_too F.any_token s o n m.0, (n ∙ m.1.0, r)))
     again_in (must f) k ts c s t o m a = stays (again_in f k ts c s t o m.1 a) (λ e r. (m.0, r))
+    again_in (checked f) k ts c s t o m a = stays (again_in f k ts c s t o m.1 a) (λ e r. (m.0, r))
     again_in (knows {t = test} f) k ts c s t o m a =
         stays (again_in f k ts c s t o m.1 a) (λ e r. (ap test a.library ∙ m.0, r))
     again_in (adds {f = x} f) k ts c s t o m a =

@@ -17,6 +17,7 @@ module _ (Right : (g : Goal) → Val g → Type 0) where
   Always R (S.choose v k) = (y : Seen v) → Always R (k y)
   Always R (S.here k) = (at : Position) → Always R (k at)
   Always R (S.must b e p) = Always R p
+  Always R (S.checked e p) = Always R p
   Always R (S.knows t e p) = Always R p
   Always R (S.adds f p) = Always R p
   Always R (S.uses v ok e c u k) = (b : Bool) → Always R (k b)

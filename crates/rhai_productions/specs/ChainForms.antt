@@ -11,7 +11,8 @@ use Rattle.rhai_grammar.specs.Goals.{BinaryOp, Expression, Goal, Links, Operand,
 use Rattle.rhai_grammar.specs.Productions.{Production}
 use Rattle.rhai_grammar.specs.Rules as P
 use Rattle.rhai_grammar.specs.Rules.{production}
-use Rattle.rhai_grammar.specs.Forms.{Form, Filled, given, take, this, if_so, if_not, choose, here, must, knows, adds}
+use Rattle.rhai_grammar.specs.Forms.{Form, Filled, given, take, this, if_so, if_not, choose, here, must, checked}
+use Rattle.rhai_grammar.specs.Forms.{knows, adds}
 use Rattle.rhai_grammar.specs.Forms.{uses, captures, part, literal, apart, in_text, form}
 use Rattle.rhai_productions.specs.Shaped.{Alike, lexemes}
 
@@ -41,6 +42,7 @@ abbrev mutual
   pieces_in (choose l at f) = pieces_in f
   pieces_in (here l at f) = pieces_in f
   pieces_in (must f) = pieces_in f
+  pieces_in (checked f) = pieces_in f
   pieces_in (knows f) = pieces_in f
   pieces_in (adds f) = pieces_in f
   pieces_in (uses l at f) = pieces_in f

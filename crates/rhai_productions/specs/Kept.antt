@@ -1,6 +1,6 @@
 -- When a production keeps what holds of trees and of functions. What holds of a part is said by its tree, the token at
 -- which it begins, and the one that follows it.
-use Rattle.std.specs.Prelude.{◌≡◌, ℕ, Bool, true, false, List}
+use Rattle.std.specs.Prelude.{◌≡◌, ℕ, Bool, true, false, List, None}
 use Rattle.rhai_grammar.specs.Prelude.{Lexeme, Position, Use, Ended}
 use Rattle.rhai_grammar.specs.Goals.{Goal, Val}
 use Rattle.rhai_grammar.specs.Productions.{Production, View, Seen, view}
@@ -19,6 +19,7 @@ module _ (Right : (g : Goal) → Val g → (first next : Lexeme) → Type 0) (Go
   Keeps R (S.choose v k) n = (y : Seen v) → view v n ≡ y → Keeps R (k y) n
   Keeps R (S.here k) n = (at : Position) → Keeps R (k at) n
   Keeps R (S.must b e p) n = b ≡ true → Keeps R p n
+  Keeps R (S.checked e p) n = e ≡ None → Keeps R p n
   Keeps R (S.knows t e p) n = Keeps R p n
   Keeps R (S.adds f p) n = Good f × Keeps R p n
   Keeps R (S.uses v ok e c u k) n = (b : Bool) → v n ≡ b → Keeps R (k b) n

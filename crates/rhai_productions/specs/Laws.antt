@@ -14,19 +14,9 @@ use Rattle.rhai_grammar.specs.Goals.{Goal, Val, Whole, Script}
 use Rattle.rhai_reading.specs.Reading.{body}
 use Rattle.rhai_reading.specs.Running as running
 use Rattle.rhai_reading.specs.Running.{Gives, Progress, result_of}
-use Rattle.rhai_productions.specs.Agreement.{Agrees, histories, looks_twice, runs}
 use Rattle.rhai_grammar.specs.Forms as derived
 use Rattle.rhai_grammar.specs.Promises.{ReadsWhole, Written, written, tree_of, Unwritten, unwritten}
 use Rattle.rhai_grammar.specs.Rules.{production}
-use Rattle.rhai_productions.specs.Readers.{run}
-
--- The reader of each production is the term that the reading program has for its goal, but where that looks twice at
--- one
--- token. There, as elsewhere, both do the same, in both ways in which programs are run.
-pub record ProductionsAreRead : Type 0 where
-  pub equal : (g : Goal) → looks_twice g ≡ false → run (production g) ≡ body g
-  pub in_histories : (g : Goal) → Agrees histories (run (production g)) (body g)
-  pub in_runs : (g : Goal) → Agrees runs (run (production g)) (body g)
 
 -- ---- sound and complete
 

@@ -1,6 +1,4 @@
-pub mod Readers
 pub mod Tidiness
-pub mod Agreement
 pub mod Laws
 pub mod EventLaws
 pub mod Watched

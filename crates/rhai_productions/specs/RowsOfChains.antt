@@ -13,7 +13,8 @@ use Rattle.rhai_grammar.specs.Contexts.{Context, level_up, nothing_live}
 use Rattle.rhai_grammar.specs.Delivered.{code}
 use Rattle.rhai_grammar.specs.RowStreams.{between, depth, unread}
 use Rattle.rhai_grammar.specs.Trees.{variable_of}
-use Rattle.rhai_grammar.specs.Forms.{Form, choose, form, given, here, if_not, if_so, must, must_here, part, this, uses}
+use Rattle.rhai_grammar.specs.Forms.{Form, choose, form, given, here, if_not, if_so, must, part, this, uses}
+use Rattle.rhai_grammar.specs.Forms.{checked_here}
 use Rattle.rhai_grammar.specs.Goals.{Operand}
 use Rattle.rhai_grammar.specs.Promises.{Unwritten, Written, tree_of}
 use Rattle.rhai_grammar.specs.Rules.{production}
@@ -174,7 +175,7 @@ capture_form c =
     (place 1 5) (must (this (Sign token.Unit) (place 1 5) given)))))) given)))) (open_part (choose (Sign token.Period)
     (place 1 7) (this (Sign token.Period) (place 1 7) (choose (Name (codes "b")) (place 1 8) (must (part _ (form (this
     (Name (codes "b")) (place 1 8) (if_not (if_not given)))) (open_part (choose (Sign token.EOF) (place 1 9)
-    must_here))))))))))))))))))
+    checked_here))))))))))))))))))
 
 abbrev pub capture_refused : Refusal
 capture_refused = refusal cause.MalformedCapture (place 1 3)

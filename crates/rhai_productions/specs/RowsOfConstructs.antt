@@ -14,6 +14,8 @@ use Rattle.rhai_grammar.specs.Flags as bit
 use Rattle.rhai_grammar.specs.Operators.{operator_call}
 use Rattle.rhai_grammar.specs.RowStreams.{between, depth, under, unread}
 use Rattle.rhai_grammar.specs.Forms.{choose, form, given, if_not, literal_here, must, must_here, open_form, part}
+use Rattle.rhai_grammar.specs.Forms.{checked_here}
+use Rattle.rhai_grammar.specs.Forms.{checked}
 use Rattle.rhai_grammar.specs.Forms.{take, take_here, this}
 use Rattle.rhai_grammar.specs.Promises.{Unwritten, Written, tree_of}
 use Rattle.rhai_productions.specs.RowsOfStatements.{begins, definition, integer, let_tokens, variable}
@@ -190,10 +192,11 @@ integer_form =
     open_first (open_switch 1 (name_alone (codes "x") 8 (opening_brace 10)) 10 (open_form (choose (Integer (pos 0))
     (place 1 12) (part _ (form (part _ (cased (run (number 0 12 (range 13)) (
     joins_last (range 13) tt (right_of_range (number 5 15 (arrow 17)) tt) (arrow 17)))) (part _ (form (if_not given))
-    (take (Sign token.DoubleArrow) (place 1 17) (part _ (does tt (evaluates (alone (number 1 20) (comma 21)) tt)) (must
-    (part _ (comma_after 21) given))))))) (open_part (choose (Integer (pos 3)) (place 1 23) (open_part (part _ (cased
-    (alone (number 3 23) (arrow 25))) (part _ (form (if_not given)) (take (Sign token.DoubleArrow) (place 1 25) (part _
-    (does tt (evaluates (alone (number 2 28) (closing_brace 30)) tt)) must_here))))))))))) tt
+    (take (Sign token.DoubleArrow) (place 1 17) (part _ (does tt (evaluates (alone (number 1 20) (comma 21)) tt))
+    (checked (part _ (comma_after 21) given))))))) (open_part (choose (Integer (pos 3)) (place 1 23)
+    (open_part (part _ (cased (alone (number 3 23) (arrow 25)))
+    (part _ (form (if_not given)) (take (Sign token.DoubleArrow) (place 1 25) (part _
+    (does tt (evaluates (alone (number 2 28) (closing_brace 30)) tt)) checked_here))))))))))) tt
 
 pub record IntegerRow : Type 0 where
   pub missed : Misses (script (depth 64)) integer_form (unread (integer_begun ++ integer_rest) 31)

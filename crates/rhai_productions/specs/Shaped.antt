@@ -8,7 +8,7 @@ use Rattle.rhai_grammar.specs.Goals.{Goal, Val, Expression, Script}
 use Rattle.rhai_grammar.specs.Productions.{Production, view}
 use Rattle.rhai_grammar.specs.Rules.{production}
 use Rattle.rhai_grammar.specs.Forms as F
-use Rattle.rhai_grammar.specs.Forms.{given, take, this, if_so, if_not, choose, here, must, knows, adds, uses}
+use Rattle.rhai_grammar.specs.Forms.{given, take, this, if_so, if_not, choose, here, must, checked, knows, adds, uses}
 use Rattle.rhai_grammar.specs.Forms.{captures, part, literal, apart, in_text, form}
 
 -- the same context at another level
@@ -34,6 +34,7 @@ module _ (rule : (g : Goal) → Production (Val g)) where
     AlikeIn (choose {v = v} l at f) (choose m pos e) = (view v l ≡ view v m) × AlikeIn f e
     AlikeIn (here l at f) (here m pos e) = AlikeIn f e
     AlikeIn (must f) (must e) = AlikeIn f e
+    AlikeIn (checked f) (checked e) = AlikeIn f e
     AlikeIn (knows f) (knows e) = AlikeIn f e
     AlikeIn (adds f) (adds e) = AlikeIn f e
     AlikeIn (uses {v = excludes} l at f) (uses m pos e) = (excludes l ≡ excludes m) × AlikeIn f e

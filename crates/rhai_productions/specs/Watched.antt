@@ -91,6 +91,7 @@ module _ (within names : Bool) (slots : List SlotValue) where
   Watches (S.choose v k) = (y : Seen v) → Watches (k y)
   Watches (S.here k) = (at : Position) → Watches (k at)
   Watches (S.must b e p) = Watches p
+  Watches (S.checked e p) = Watches p
   Watches (S.knows t e p) = Watches p
   Watches (S.adds f p) = Watches p
   Watches (S.uses excludes ok e captured u k) = (names ≡ true)

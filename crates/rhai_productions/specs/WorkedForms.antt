@@ -16,6 +16,7 @@ use Rattle.rhai_grammar.specs.Goals.{BinaryOp, Expression, Links, NextOperator, 
 use Rattle.rhai_grammar.specs.Goals.{Statement, Whole}
 use Rattle.rhai_grammar.specs.Strengths.{continues}
 use Rattle.rhai_grammar.specs.Forms.{Filled, Form, choose, form, given, here, if_not, if_so, must, part, take}
+use Rattle.rhai_grammar.specs.Forms.{checked}
 use Rattle.rhai_grammar.specs.Forms.{this, uses}
 use Rattle.rhai_grammar.specs.Promises.{Written}
 use Rattle.rhai_grammar.specs.Rules as P
@@ -34,7 +35,7 @@ unlinked {w} {spot} t = form (choose t.token (place 1 t.column) (t.no_link w spo
 abbrev pub linked : {c : Context} {w : Live} {x : Node} {ls : List Link} → Form production (Primary c w) x
     → Form production (Links w (spot_after_operand c x)) ls
     → Filled production (Operand c w) (P.operand_by c w begin.Value) (chained x ls)
-linked f links = part _ f (part _ (form (if_not (if_not given))) (part _ links (must given)))
+linked f links = part _ f (part _ (form (if_not (if_not given))) (part _ links (checked given)))
 
 -- a number without links
 abbrev pub number : {c : Context} {w : Live} {o : Option (ℕ × Bool)} (n column : ℕ) → After c.filter o

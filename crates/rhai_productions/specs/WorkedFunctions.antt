@@ -23,6 +23,7 @@ use Rattle.rhai_grammar.specs.declared.role.StatementStart.TheVariants as first
 use Rattle.rhai_grammar.specs.Goals as goal
 use Rattle.rhai_grammar.specs.Goals.{Block, Expression, Goal, Inside, Links, Operand, Statement, Val}
 use Rattle.rhai_grammar.specs.Forms.{Filled, Form, adds, apart, captures, choose, form, given, here, if_not}
+use Rattle.rhai_grammar.specs.Forms.{checked}
 use Rattle.rhai_grammar.specs.Forms.{if_so, in_text, knows, literal, must, part, take, this}
 use Rattle.rhai_grammar.specs.Rules as P
 use Rattle.rhai_grammar.specs.Rules.{production}
@@ -57,7 +58,7 @@ abbrev pub for_each : {c : Context} {w : Live} {names : Text × Option Text} {x 
 for_each {c} at so names over body =
     form (choose (Sign token.For) (place 1 at) (construct_there kind.For (may_stand c kind.For) so (
     this (Sign token.For) (place 1 at) (must (must (part _ (form (part _ names (
-    part _ (form (if_not (part _ over (must given)))) (part _ body given)))) given))))))
+    part _ (form (if_not (part _ over (checked given)))) (part _ body given)))) given))))))
 
 -- ---- `switch`
 
@@ -118,7 +119,7 @@ abbrev pub arm_then : {c : Context} {w : Live} {before all : Collected} {x : Nod
 arm_then f so arrow action end rest =
     form (choose (start f).0 (start f).1 (case_there (arm_role (start f).0) so (part _ (form (part _ (cased f) (
     part _ (form (if_not given)) (take (Sign token.DoubleArrow) (place 1 arrow) (
-    part _ action (must (part _ end given))))))) (part _ rest given))))
+    part _ action (checked (part _ end given))))))) (part _ rest given))))
 
 -- no further arm, but the `}`
 abbrev pub no_arm : {c : Context} {w : Live} {before : Collected} (closing : ℕ)

@@ -12,6 +12,7 @@ use Rattle.rhai_grammar.specs.declared.role.ItemRole.TheVariants as item
 use Rattle.rhai_grammar.specs.Goals as goal
 use Rattle.rhai_grammar.specs.Goals.{Expression, Links, Operand}
 use Rattle.rhai_grammar.specs.Forms.{Filled, Form, choose, form, given, if_not, if_so, must, part, take, this}
+use Rattle.rhai_grammar.specs.Forms.{checked}
 use Rattle.rhai_grammar.specs.Rules as P
 use Rattle.rhai_grammar.specs.Rules.{production}
 use Rattle.rhai_productions.specs.WorkedForms.{linked, name_before, start, unlinked}
@@ -26,7 +27,7 @@ abbrev pub bracket : {w : Live} {spot : LinkSpot} {x : Node} {ls : List Link} (o
     → Form production (Links w spot) ls
 bracket opening f closing links =
     form (choose (Sign token.LeftBracket) (place 1 opening) (this (Sign token.LeftBracket) (place 1 opening) (
-    must (must (part _ (form (part _ f (must (take (Sign token.RightBracket) (place 1 closing) given)))) (
+    must (must (part _ (form (part _ f (checked (take (Sign token.RightBracket) (place 1 closing) given)))) (
     part _ links given))))))
 
 -- the same after `?[`
@@ -37,7 +38,7 @@ abbrev pub question_bracket : {w : Live} {spot : LinkSpot} {x : Node} {ls : List
     → Form production (Links w spot) ls
 question_bracket opening f closing links =
     form (choose (Sign token.QuestionBracket) (place 1 opening) (this (Sign token.QuestionBracket) (place 1 opening) (
-    must (must (part _ (form (part _ f (must (take (Sign token.RightBracket) (place 1 closing) given)))) (
+    must (must (part _ (form (part _ f (checked (take (Sign token.RightBracket) (place 1 closing) given)))) (
     part _ links given))))))
 
 -- a property after a dot, and the links after it
@@ -68,7 +69,7 @@ called name column opening items t =
     part _ (form (if_not (if_so (part _ (form (choose (Sign token.LeftParen) (place 1 opening) (
     this (Sign token.LeftParen) (place 1 opening) (
     part _ (form (if_not (if_not (must (part _ items given))))) given)))) (
-    must given))))) (part _ (unlinked t) (must given)))))
+    checked given))))) (part _ (unlinked t) (checked given)))))
 
 -- a name after `::` that is called with `()`
 abbrev pub path_called : {c : Context} {w : Live} {o : Option (ℕ × Bool)} (root : Text) (column colons : ℕ)
@@ -79,7 +80,7 @@ path_called root column colons name at pair t =
     form (choose (Name root) (place 1 column) (part _ (name_before root column (Sign token.DoubleColon) colons) (
     part _ (form (if_so (part _ (form (this (Sign token.DoubleColon) (place 1 colons) (
     take (Name name) (place 1 at) (if_not given)))) (if_so (part _ (form (choose (Sign token.Unit) (place 1 pair) (
-    this (Sign token.Unit) (place 1 pair) given))) (must given)))))) (part _ (unlinked t) (must given)))))
+    this (Sign token.Unit) (place 1 pair) given))) (checked given)))))) (part _ (unlinked t) (checked given)))))
 
 -- an item of an array begins there
 abbrev pub IsItem : ItemRole → Type 0

@@ -59,7 +59,7 @@ holds_open q false e f = absurd e
 -- an operator that goes on with a run, and what follows it
 abbrev pub open_after : {c : Context} {w : Live} {at : Position} {parent : ℕ} {x : Node} {op : ℕ × Bool}
     (t : After c.filter (Some op)) → Holds (continues parent op.0 op.1)
-    → FilledIn production (BinaryOp c w at parent x) (P.binary_on c w at parent x op) None
+    → FilledIn production (BinaryOp c w at parent x) (P.binary_on c w at parent x op.0) None
     → Open production (BinaryOp c w at parent x)
 open_after {parent = parent} {op = op} t so rest =
     open_form (part _ (form (choose t.token (place 1 t.column) t.operator)) (

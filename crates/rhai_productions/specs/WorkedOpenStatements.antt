@@ -19,6 +19,7 @@ use Rattle.rhai_grammar.specs.declared.role.StatementStart.TheVariants as first
 use Rattle.rhai_grammar.specs.Goals as goal
 use Rattle.rhai_grammar.specs.Goals.{Block, ExprStatement, Expression, Inside, Operand, Statement, Statements}
 use Rattle.rhai_grammar.specs.Forms.{Form, Open, FilledIn, apart_here, choose, form, given, here, if_not, if_so}
+use Rattle.rhai_grammar.specs.Forms.{checked_here}
 use Rattle.rhai_grammar.specs.Forms.{knows, knows_here, must, must_here, open_form, part, part_here, take, this}
 use Rattle.rhai_grammar.specs.Rules as P
 use Rattle.rhai_grammar.specs.Rules.{production}
@@ -113,7 +114,7 @@ open_single f = open_form (part_here f)
 abbrev pub refused_assignment : {c : Context} {w : Live} {x y : Node} → Form production (Expression c w) x
     → (equals : ℕ) → Form production (Expression c w) y → Open production (ExprStatement c w)
 refused_assignment f equals g =
-    open_form (part _ f (if_so (this (Sign token.Equals) (place 1 equals) (part _ g must_here))))
+    open_form (part _ f (if_so (this (Sign token.Equals) (place 1 equals) (part _ g checked_here))))
 
 -- a definition whose value is one level too deep, which is refused at the `let`; and one whose value is open
 abbrev pub deep_let : {c : Context} {w : Live} (at : ℕ) (name : Text) (column equals : ℕ)

@@ -5,7 +5,7 @@ use Rattle.rhai_grammar.specs.Prelude.{Lexeme, LinkSpot, Live, Sign, follower_of
 use Rattle.rhai_grammar.specs.declared.filter.ExprFilter.{ExprFilter}
 use Rattle.rhai_grammar.specs.declared.filter.ExprFilter.TheVariants.{All, AllButPipe}
 use Rattle.rhai_grammar.specs.Goals.{Links, NextOperator}
-use Rattle.rhai_grammar.specs.Forms.{Filled, given, must}
+use Rattle.rhai_grammar.specs.Forms.{Filled, given, checked}
 use Rattle.rhai_grammar.specs.Rules as P
 use Rattle.rhai_grammar.specs.Rules.{production}
 
@@ -25,7 +25,7 @@ abbrev pub plus : {filter : ExprFilter} → ℕ → After filter (Some (150, fal
 plus n = record {
   token = Sign token.Plus;
   column = n;
-  no_link = λ w spot. must given;
+  no_link = λ w spot. checked given;
   operator = given;
 }
 
@@ -34,7 +34,7 @@ abbrev pub times : {filter : ExprFilter} → ℕ → After filter (Some (180, fa
 times n = record {
   token = Sign token.Multiply;
   column = n;
-  no_link = λ w spot. must given;
+  no_link = λ w spot. checked given;
   operator = given;
 }
 
@@ -43,7 +43,7 @@ abbrev pub range : {filter : ExprFilter} → ℕ → After filter (Some (140, fa
 range n = record {
   token = Sign token.ExclusiveRange;
   column = n;
-  no_link = λ w spot. must given;
+  no_link = λ w spot. checked given;
   operator = given;
 }
 
@@ -52,7 +52,7 @@ abbrev pub membership : {filter : ExprFilter} → ℕ → After filter (Some (11
 membership n = record {
   token = Sign token.In;
   column = n;
-  no_link = λ w spot. must given;
+  no_link = λ w spot. checked given;
   operator = given;
 }
 
@@ -61,7 +61,7 @@ abbrev pub coalesce : {filter : ExprFilter} → ℕ → After filter (Some (135,
 coalesce n = record {
   token = Sign token.DoubleQuestion;
   column = n;
-  no_link = λ w spot. must given;
+  no_link = λ w spot. checked given;
   operator = given;
 }
 
@@ -72,7 +72,7 @@ abbrev pub end_mark : {filter : ExprFilter} → ℕ → After filter None
 end_mark n = record {
   token = Sign token.EOF;
   column = n;
-  no_link = λ w spot. must given;
+  no_link = λ w spot. checked given;
   operator = given;
 }
 
@@ -81,7 +81,7 @@ abbrev pub semicolon : {filter : ExprFilter} → ℕ → After filter None
 semicolon n = record {
   token = Sign token.SemiColon;
   column = n;
-  no_link = λ w spot. must given;
+  no_link = λ w spot. checked given;
   operator = given;
 }
 
@@ -90,7 +90,7 @@ abbrev pub comma : {filter : ExprFilter} → ℕ → After filter None
 comma n = record {
   token = Sign token.Comma;
   column = n;
-  no_link = λ w spot. must given;
+  no_link = λ w spot. checked given;
   operator = given;
 }
 
@@ -99,7 +99,7 @@ abbrev pub closing_paren : {filter : ExprFilter} → ℕ → After filter None
 closing_paren n = record {
   token = Sign token.RightParen;
   column = n;
-  no_link = λ w spot. must given;
+  no_link = λ w spot. checked given;
   operator = given;
 }
 
@@ -108,7 +108,7 @@ abbrev pub closing_bracket : {filter : ExprFilter} → ℕ → After filter None
 closing_bracket n = record {
   token = Sign token.RightBracket;
   column = n;
-  no_link = λ w spot. must given;
+  no_link = λ w spot. checked given;
   operator = given;
 }
 
@@ -117,7 +117,7 @@ abbrev pub opening_brace : {filter : ExprFilter} → ℕ → After filter None
 opening_brace n = record {
   token = Sign token.LeftBrace;
   column = n;
-  no_link = λ w spot. must given;
+  no_link = λ w spot. checked given;
   operator = given;
 }
 
@@ -126,7 +126,7 @@ abbrev pub closing_brace : {filter : ExprFilter} → ℕ → After filter None
 closing_brace n = record {
   token = Sign token.RightBrace;
   column = n;
-  no_link = λ w spot. must given;
+  no_link = λ w spot. checked given;
   operator = given;
 }
 
@@ -135,7 +135,7 @@ abbrev pub arrow : {filter : ExprFilter} → ℕ → After filter None
 arrow n = record {
   token = Sign token.DoubleArrow;
   column = n;
-  no_link = λ w spot. must given;
+  no_link = λ w spot. checked given;
   operator = given;
 }
 
@@ -144,7 +144,7 @@ abbrev pub equals : {filter : ExprFilter} → ℕ → After filter None
 equals n = record {
   token = Sign token.Equals;
   column = n;
-  no_link = λ w spot. must given;
+  no_link = λ w spot. checked given;
   operator = given;
 }
 
@@ -153,14 +153,14 @@ abbrev pub as_word : {filter : ExprFilter} → ℕ → After filter None
 as_word n = record {
   token = Sign token.As;
   column = n;
-  no_link = λ w spot. must given;
+  no_link = λ w spot. checked given;
   operator = given;
 }
 
 -- ---- `|`, which is an operator but in a case of a `switch`
 
 abbrev pub bar : ℕ → After All (Some (30, false))
-bar n = record { token = Sign token.Pipe; column = n; no_link = λ w spot. must given; operator = given }
+bar n = record { token = Sign token.Pipe; column = n; no_link = λ w spot. checked given; operator = given }
 
 abbrev pub case_bar : ℕ → After AllButPipe None
-case_bar n = record { token = Sign token.Pipe; column = n; no_link = λ w spot. must given; operator = given }
+case_bar n = record { token = Sign token.Pipe; column = n; no_link = λ w spot. checked given; operator = given }

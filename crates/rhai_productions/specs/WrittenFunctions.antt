@@ -12,7 +12,7 @@ use Rattle.rhai_grammar.specs.Goals.{Goal, Val}
 use Rattle.rhai_grammar.specs.Productions.{Production}
 use Rattle.rhai_grammar.specs.Rules.{production}
 use Rattle.rhai_grammar.specs.Forms.{Filled, Form, adds, apart, captures, choose, form, given, here, if_not}
-use Rattle.rhai_grammar.specs.Forms.{if_so, in_text, knows, literal, must, part, take, this, uses}
+use Rattle.rhai_grammar.specs.Forms.{if_so, in_text, knows, literal, must, checked, part, take, this, uses}
 use Rattle.rhai_grammar.specs.Events.{taken}
 use Rattle.rhai_productions.specs.WrittenUses.{free_names, outer_uses, outside, use_of, uses_in}
 
@@ -50,6 +50,7 @@ module _ (rule : (g : Goal) → Production (Val g)) where
     functions_of (choose l at f) names = functions_of f names
     functions_of (here l at f) names = functions_of f names
     functions_of (must f) names = functions_of f names
+    functions_of (checked f) names = functions_of f names
     functions_of (knows f) names = functions_of f names
     functions_of (adds {f = x} f) names = record { ended = x; names = names } ∷ functions_of f names
     functions_of (uses l at f) names = functions_of f names
@@ -76,7 +77,7 @@ example_expression context = form (here (Name (codes "b")) (place 1 5) (must (
     part example_name (form (choose (Name (codes "b")) (place 1 5) (
     this (Name (codes "b")) (place 1 5) (uses (Sign token.EOF) (place 1 6) given)))) (
     part example_name (form (if_not (if_not given))) (
-    part [] (form (choose (Sign token.EOF) (place 1 6) (must given))) (must given)))))) (
+    part [] (form (choose (Sign token.EOF) (place 1 6) (checked given))) (checked given)))))) (
     part example_name (form (part None (form (choose (Sign token.EOF) (place 1 6) given)) given)) given))))
 
 abbrev example_captured : List Use

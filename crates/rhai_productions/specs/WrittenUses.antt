@@ -8,7 +8,7 @@ use Rattle.rhai_reading.specs.Reading as R
 use Rattle.rhai_grammar.specs.Goals.{Goal, Val}
 use Rattle.rhai_grammar.specs.Productions.{Production}
 use Rattle.rhai_grammar.specs.Forms.{Filled, Form, adds, apart, captures, choose, form, given, here, if_not}
-use Rattle.rhai_grammar.specs.Forms.{if_so, in_text, knows, literal, must, part, take, this, uses}
+use Rattle.rhai_grammar.specs.Forms.{if_so, in_text, knows, literal, must, checked, part, take, this, uses}
 use Rattle.rhai_grammar.specs.Events.{is_free, spelling_in}
 
 -- a name where it is used
@@ -75,6 +75,7 @@ module _ (rule : (g : Goal) → Production (Val g)) where
     uses_of (choose l at f) = uses_of f
     uses_of (here l at f) = uses_of f
     uses_of (must f) = uses_of f
+    uses_of (checked f) = uses_of f
     uses_of (knows f) = uses_of f
     uses_of (adds {f = x} f) = IsEnd x ∷ uses_of f
     uses_of (uses {h = h} {v = v} {u = u} l at f) = use_of (v l) u (live_slots h) ++ uses_of f

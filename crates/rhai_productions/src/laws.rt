@@ -1,14 +1,7 @@
 //! Laws of the productions, as contracts of functions that do nothing.
 
 ghost use Rattle.rhai_productions.specs.Laws.{EntriesArePromised, FormsAreComplete, FormsAreSound};
-ghost use Rattle.rhai_productions.specs.Laws.{FormsHaveOneTree, FormsNestReaders, ProductionsAreRead};
-
-/// Each production is read as the reading program says: for all goals but six by the very same term, and for these by
-/// one that looks once at a token where that term looks twice.
-#[tactic(auto, using(crate::proofs::LawLemmas::productions_are_read))]
-pub fn productions_are_read()
-    ensures { ProductionsAreRead }
-{}
+ghost use Rattle.rhai_productions.specs.Laws.{FormsHaveOneTree, FormsNestReaders};
 
 /// What is read for a goal is the tree of a form that is met on the way; a refusal comes with an open form that misses
 /// its last demand there.

@@ -76,8 +76,8 @@ pub fn sized_row()
     ensures { SizedRow }
 {}
 
-/// `( x[y].prop_a )[z].prop_b` and `x[y].prop_a[z].prop_b` fit, and their trees are equal up to positions. The second is
-/// the first without its two parentheses, as the law `chains_are_joined` has it.
+/// `( x[y].prop_a )[z].prop_b` and `x[y].prop_a[z].prop_b` fit, and their trees are equal up to positions. The second
+/// is the first without its two parentheses, as the law `chains_are_joined` has it.
 #[tactic(auto, using(crate::proofs::ChainRowLemmas::grouped_row))]
 pub fn grouped_row()
     ensures { GroupedRow }

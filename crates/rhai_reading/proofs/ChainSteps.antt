@@ -1,5 +1,5 @@
 -- Several steps as one: a dot with its member, a bracket with its index.
-use Rattle.std.proofs.Common.{◌≡◌, ◌+◌, ◌≤◌, true, false, None, [], ◌∷◌, ◌++◌, sym, ap, ◌∙◌, subst, arith}
+use Rattle.std.proofs.Common.{◌≡◌, ◌+◌, ◌≤◌, true, false, None, Some, List, [], ◌∷◌, ◌++◌, sym, ap, ◌∙◌, subst, arith}
 use Rattle.std.proofs.Common.{if◌then◌else◌}
 use Rattle.rhai_grammar.specs.Prelude.{Lexeme, Node, Position, AMember, linking, member_role, refusal, ExprTooDeep}
 use Rattle.rhai_grammar.specs.Prelude.{out_of_memory, Context, Live, may_raise, level_up, left, Item, item, is_end}
@@ -7,7 +7,10 @@ use Rattle.rhai_grammar.specs.Prelude.{is_memory, bracket_link, member_link, Lin
 use Rattle.rhai_grammar.specs.Prelude.{spot_after_dot}
 use Rattle.rhai_grammar.specs.declared.role.Linking.TheVariants as link
 use Rattle.rhai_reading.specs.Running.{Progress, next_item, after_peek, after_take, exec, guarded, nested, result_of}
-use Rattle.rhai_reading.specs.Reading.{Fail, Ret, Call, Index, Links, Member, dot_at, links_at, raised}
+use Rattle.rhai_grammar.specs.Productions.{Production, give, part, raise}
+use Rattle.rhai_grammar.specs.Rules.{dotted_by, links_by}
+use Rattle.rhai_grammar.specs.Chains.{Link}
+use Rattle.rhai_reading.specs.Reading.{Fail, Ret, Call, Index, Links, Member, run, run_from}
 use Rattle.rhai_reading.specs.Running as R
 use Rattle.rhai_reading.proofs.Steps.{and_then_done, guarded_is, nested_is, step_links}
 
@@ -29,14 +32,15 @@ dot_taken w q x s t h =
     let l = (next_item s).lexeme in
     let at = (next_item s).at in
     let u = after_take s in
+    let m = (next_item u).lexeme in
     let inner = nested_is g s (Member (level_up q.settings) w) (after_peek u) (omega (arith, h.after_dot)) ∙ h.member in
     let on = Links w (spot_after_dot q (member_link l at x)) in
     step_links w q s
-    ∙ ap (λ m. if m then R.Refused out_of_memory (after_peek s) else exec call (links_at w q l at (linking l)) (after_peek s)) h.readable
-    ∙ ap (λ b. exec call (links_at w q l at b) (after_peek s)) h.dot
-    ∙ ap (λ m. if m then R.Refused out_of_memory (after_peek (after_peek s)) else (if is_memory (next_item u).lexeme then R.Refused out_of_memory (after_peek u) else exec call (dot_at w q l at (next_item u).at (member_role (next_item u).lexeme)) (after_peek u))) h.readable
-    ∙ ap (λ m. if m then R.Refused out_of_memory (after_peek u) else exec call (dot_at w q l at (next_item u).at (member_role (next_item u).lexeme)) (after_peek u)) h.readable_on
-    ∙ ap (λ b. exec call (dot_at w q l at (next_item u).at b) (after_peek u)) h.due
+    ∙ ap (λ m. if m then R.Refused out_of_memory (after_peek s) else exec call (run_from (links_by w q (linking l)) (Some (l, at))) (after_peek s)) h.readable
+    ∙ ap (λ b. exec call (run_from (links_by w q b) (Some (l, at))) (after_peek s)) h.dot
+    ∙ ap (λ o. if o then R.Refused out_of_memory (after_peek (after_peek s)) else (if is_memory m then R.Refused out_of_memory (after_peek u) else exec call (run_from (dotted_by w q l at (member_role m)) (Some (m, (next_item u).at))) (after_peek u))) h.readable
+    ∙ ap (λ o. if o then R.Refused out_of_memory (after_peek u) else exec call (run_from (dotted_by w q l at (member_role m)) (Some (m, (next_item u).at))) (after_peek u)) h.readable_on
+    ∙ ap (λ b. exec call (run_from (dotted_by w q l at b) (Some (m, (next_item u).at))) (after_peek u)) h.due
     ∙ ap (λ b. exec call (if b then Call (Member (level_up q.settings) w) (λ y. Call (Links w (spot_after_dot q (member_link l at y))) Ret) else Fail (refusal ExprTooDeep at)) (after_peek u)) h.room
     ∙ ap (λ o. R.and_then o (λ y v. exec call (Call (Links w (spot_after_dot q (member_link l at y))) Ret) v)) inner
     ∙ and_then_done (call on t)
@@ -108,14 +112,15 @@ bracket_taken w q x s t h =
     let at = (next_item s).at in
     let u = after_take s in
     let d = level_up q.brackets in
+    let inside : Context → Production (List Link) = λ e. part (Index e w q.indexed) (λ y. part (Links w (spot_after_bracket q (bracket_link l at y))) give) in
     let inner = nested_is g s (Index (level_up d) w q.indexed) u (omega (arith, h.after_bracket)) ∙ h.index in
     let on = Links w (spot_after_bracket q (bracket_link l at x)) in
     step_links w q s
-    ∙ ap (λ m. if m then R.Refused out_of_memory (after_peek s) else exec call (links_at w q l at (linking l)) (after_peek s)) h.readable
-    ∙ ap (λ b. exec call (links_at w q l at b) (after_peek s)) h.bracket
-    ∙ ap (λ m. if m then R.Refused out_of_memory (after_peek (after_peek s)) else exec call (raised q.brackets at (λ v. raised v at (λ e. Call (Index e w q.indexed) (λ y. Call (Links w (spot_after_bracket q (bracket_link l at y))) Ret)))) u) h.readable
-    ∙ ap (λ b. exec call (if b then raised d at (λ e. Call (Index e w q.indexed) (λ y. Call (Links w (spot_after_bracket q (bracket_link l at y))) Ret)) else Fail (refusal ExprTooDeep at)) u) h.room
-    ∙ ap (λ b. exec call (if b then Call (Index (level_up d) w q.indexed) (λ y. Call (Links w (spot_after_bracket q (bracket_link l at y))) Ret) else Fail (refusal ExprTooDeep at)) u) h.room_on
+    ∙ ap (λ m. if m then R.Refused out_of_memory (after_peek s) else exec call (run_from (links_by w q (linking l)) (Some (l, at))) (after_peek s)) h.readable
+    ∙ ap (λ b. exec call (run_from (links_by w q b) (Some (l, at))) (after_peek s)) h.bracket
+    ∙ ap (λ m. if m then R.Refused out_of_memory (after_peek (after_peek s)) else exec call (run (raise q.brackets at (λ v. raise v at inside))) u) h.readable
+    ∙ ap (λ b. exec call (if b then run (raise d at inside) else Fail (refusal ExprTooDeep at)) u) h.room
+    ∙ ap (λ b. exec call (if b then run (inside (level_up d)) else Fail (refusal ExprTooDeep at)) u) h.room_on
     ∙ ap (λ o. R.and_then o (λ y v. exec call (Call (Links w (spot_after_bracket q (bracket_link l at y))) Ret) v)) inner
     ∙ and_then_done (call on t)
     ∙ guarded_is g s on t (omega (arith, h.after_index))

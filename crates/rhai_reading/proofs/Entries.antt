@@ -2,12 +2,13 @@
 use Rattle.std.proofs.Common.{if◌then◌else◌}
 use Rattle.std.proofs.Common.{◌≡◌, ℕ, zero, suc, ◌+◌, Bool, true, false, List, [], refl, sym, ap, ◌∙◌, subst, arith}
 use Rattle.rhai_grammar.specs.Prelude.{Context, Live, Node, Refusal, is_memory_cause, out_of_memory, code, Point, Taken}
-use Rattle.rhai_grammar.specs.Prelude.{is_memory}
+use Rattle.rhai_grammar.specs.Prelude.{is_end, is_memory, unexpected}
 use Rattle.rhai_grammar.specs.Prelude.{Cursor, Gives, leads, latest_first, BeginsWith, Readable, StandsAtLast, TakenIn}
 use Rattle.rhai_grammar.specs.Prelude.{Demands, Met, Missed, IsWritten, EndsIn, Library, with_captured}
 use Rattle.rhai_grammar.specs.Cursors as C
 use Rattle.rhai_grammar.specs.Promises.{start_of, Saw, IsNamed, IsReadable, HasRead, IsWrittenTo, NoneBegins}
-use Rattle.rhai_reading.specs.Reading.{Goal, Val, Script, Whole, Peek, Prog, body, whole_at}
+use Rattle.rhai_grammar.specs.Productions.{give, if_next, never}
+use Rattle.rhai_reading.specs.Reading.{Goal, Val, Script, Whole, Prog, body, run}
 use Rattle.rhai_reading.specs.Running as R
 use Rattle.rhai_reading.specs.Running.{Progress, result_of}
 use Rattle.rhai_reading.specs.Histories.{State, and_then, next_item, after_peek, Outcome, Done, Refused, Unfinished, exec}
@@ -294,7 +295,7 @@ whole_looks c live (suc n) s other = by_test (is_memory (next_item s).lexeme) _ 
   where
     by_test : (m : Bool) (o : Outcome Node) → IsOther
         (and_then (if m then Refused out_of_memory (after_peek s) else o)
-        (λ v u. exec (calls (suc n)) (Peek (whole_at v)) u)) → m ≡ false
+        (λ v u. exec (calls (suc n)) (run (if_next is_end (give v) (never unexpected))) u)) → m ≡ false
     by_test true o h = absurd cc
     by_test false o h = refl
 

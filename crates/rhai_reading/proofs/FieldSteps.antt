@@ -5,17 +5,19 @@ use Rattle.rhai_grammar.specs.Prelude.{refusal, out_of_memory, Context, Live, ma
 use Rattle.rhai_grammar.specs.declared.list.AfterPart.TheVariants.{Comma}
 use Rattle.rhai_grammar.specs.declared.list.CommaList.TheVariants as lists
 use Rattle.rhai_reading.specs.Running.{Progress, next_item, after_peek, after_take, exec, guarded, nested, result_of}
-use Rattle.rhai_reading.specs.Reading.{Ret, Fail, Call, Expression, Fields, NextKey, part_next, field_next, field_on}
+use Rattle.rhai_grammar.specs.Productions.{give, part}
+use Rattle.rhai_grammar.specs.Rules.{field_by, field_next, parted}
+use Rattle.rhai_reading.specs.Reading.{Ret, Fail, Call, Expression, Fields, NextKey, run, run_from}
 use Rattle.rhai_reading.specs.Running as R
 use Rattle.rhai_reading.proofs.Steps.{and_then_done, guarded_is, nested_is, step_fields}
 
 -- the equation of the properties of an object map, with the key as the code asks for it
 pub step_fields_key : (c : Context) (w : Live) (at : Position) (before : Properties) (s : Progress)
-    → result_of (Fields c w at before) s ≡ R.and_then (result_of (NextKey c before) s) (λ v t. exec (guarded (Fields c w at before) s) (field_on c w at before v) t)
+    → result_of (Fields c w at before) s ≡ R.and_then (result_of (NextKey c before) s) (λ v t. exec (guarded (Fields c w at before) s) (run (field_by c w at before v)) t)
 step_fields_key c w at before s =
     let g = Fields c w at before in
     step_fields c w at before s
-    ∙ ap (λ o. R.and_then o (λ v t. exec (guarded g s) (field_on c w at before v) t)) (guarded_is g s (NextKey c before) s (omega arith))
+    ∙ ap (λ o. R.and_then o (λ v t. exec (guarded g s) (run (field_by c w at before v)) t)) (guarded_is g s (NextKey c before) s (omega arith))
 
 -- From s a property with this key and the value x stands, and a comma after it, after which the code is at t.
 pub record TakesField (c : Context) (w : Live) (before : Properties) (key : Text × Position) (x : Node) (s s1 s2 : Progress) : Type 0 where
@@ -35,11 +37,11 @@ field_taken c w opening before key x s s1 s2 h =
     let inner = nested_is g s (Expression (level_up c) w) s1 (omega (arith, h.after_key)) ∙ h.value in
     let on = Fields c w opening ps in
     step_fields_key c w opening before s
-    ∙ ap (λ o. R.and_then o (λ v u. exec call (field_on c w opening before v) u)) h.key_read
-    ∙ ap (λ b. exec call (if b then Call (Expression (level_up c) w) (λ y. field_next c w opening (with_property before key.0 key.1 y)) else Fail (refusal ExprTooDeep opening)) s1) h.room
-    ∙ ap (λ o. R.and_then o (λ y u. exec call (field_next c w opening (with_property before key.0 key.1 y)) u)) inner
-    ∙ ap (λ m. if m then R.Refused out_of_memory (after_peek s2) else exec call (part_next lists.Map (Call on Ret) (Ret ps) (next_item s2).lexeme (next_item s2).at (after_part lists.Map (next_item s2).lexeme)) (after_peek s2)) h.readable
-    ∙ ap (λ b. exec call (part_next lists.Map (Call on Ret) (Ret ps) (next_item s2).lexeme (next_item s2).at b) (after_peek s2)) h.comma
+    ∙ ap (λ o. R.and_then o (λ v u. exec call (run (field_by c w opening before v)) u)) h.key_read
+    ∙ ap (λ b. exec call (if b then Call (Expression (level_up c) w) (λ y. run (field_next c w opening (with_property before key.0 key.1 y))) else Fail (refusal ExprTooDeep opening)) s1) h.room
+    ∙ ap (λ o. R.and_then o (λ y u. exec call (run (field_next c w opening (with_property before key.0 key.1 y))) u)) inner
+    ∙ ap (λ m. if m then R.Refused out_of_memory (after_peek s2) else exec call (run_from (parted lists.Map (part on give) (give ps) (after_part lists.Map (next_item s2).lexeme)) (Some ((next_item s2).lexeme, (next_item s2).at))) (after_peek s2)) h.readable
+    ∙ ap (λ b. exec call (run_from (parted lists.Map (part on give) (give ps) b) (Some ((next_item s2).lexeme, (next_item s2).at))) (after_peek s2)) h.comma
     ∙ ap (λ m. if m then R.Refused out_of_memory (after_peek (after_peek s2)) else exec call (Call on Ret) (after_take s2)) h.readable
     ∙ and_then_done (call on (after_take s2))
     ∙ guarded_is g s on (after_take s2) (omega (arith, h.after_comma))

@@ -1,7 +1,8 @@
 -- Results of the reading program where an operation on trees answers for a reader.
-use Rattle.std.proofs.Common.{◌≡◌, ℕ, Bool, true, false, Result, Ok, Err, IfErr, refl, ap, ◌∙◌, codes, if◌then◌else◌}
+use Rattle.std.proofs.Common.{◌≡◌, ℕ, Some, Bool, true, false, Result, Ok, Err, IfErr, refl, ap, ◌∙◌, codes}
+use Rattle.std.proofs.Common.{if◌then◌else◌}
 use Rattle.rhai_grammar.specs.Prelude.{Lexeme, Node, Position, MemoryIsNowhere, Refusal, refusal, Context, Live}
-use Rattle.rhai_grammar.specs.Prelude.{is_sign, is_list, missing, spot_after_operand, chained, module_fault, sign_holds}
+use Rattle.rhai_grammar.specs.Prelude.{is_sign, is_list, missing, sign_holds}
 use Rattle.rhai_grammar.specs.Prelude.{signed, malformed, operator_tree, boolean_holds, mismatched}
 use Rattle.rhai_grammar.specs.Answers.{Answers}
 use Rattle.rhai_grammar.specs.declared.error.ParseError.{ParseError}
@@ -12,8 +13,9 @@ use Rattle.rhai_grammar.specs.declared.role.Calling.{Calling}
 use Rattle.rhai_grammar.specs.declared.role.Calling.TheVariants as calls_by
 use Rattle.rhai_grammar.specs.Signs.{sign_result}
 use Rattle.rhai_grammar.specs.Operators.{operator_result}
-use Rattle.rhai_reading.specs.Reading.{Prog, Ret, Fail, Take, Call, Primary, Postfix, Links, Operand, BinaryOp, sign_on}
-use Rattle.rhai_reading.specs.Reading.{operand_by, given_at, binary_next, raised, tested}
+use Rattle.rhai_grammar.specs.Productions.{part, raise}
+use Rattle.rhai_grammar.specs.Rules as P
+use Rattle.rhai_reading.specs.Reading.{Prog, Ret, Fail, Take, Call, Primary, Operand, BinaryOp, run, run_from}
 use Rattle.rhai_reading.specs.Running as R
 
 -- ---- an operation's answer
@@ -39,11 +41,11 @@ exec_answered call (Err e) t = refl
 
 -- ---- signs
 
-pub operand_sign : (c : Context) (w : Live) (l : Lexeme) (at : Position) (b : Beginning) → is_sign b ≡ true → operand_by c w l at b ≡ Take (raised c at (λ d. Call (Operand d w) (sign_on l at)))
+pub operand_sign : (c : Context) (w : Live) (l : Lexeme) (at : Position) (b : Beginning) → is_sign b ≡ true → run_from (P.operand_by c w b) (Some (l, at)) ≡ Take (run (raise c at (λ d. part (Operand d w) (P.sign_on l at))))
 operand_sign c w l at begin.Sign e = refl
 operand_sign c w l at _ e = absurd cc
 
-pub operand_other : (c : Context) (w : Live) (l : Lexeme) (at : Position) (b : Beginning) → is_sign b ≡ false → operand_by c w l at b ≡ Call (Primary c w) (λ x. Call (Postfix c w x) (λ y. Call (Links w (spot_after_operand c y)) (λ ls. tested (chained y ls) (module_fault c w y))))
+pub operand_other : (c : Context) (w : Live) (l : Lexeme) (at : Position) (b : Beginning) → is_sign b ≡ false → run_from (P.operand_by c w b) (Some (l, at)) ≡ run (part (Primary c w) (P.operand_ends c w))
 operand_other c w l at begin.Sign e = absurd cc
 operand_other c w l at _ e = refl
 
@@ -51,13 +53,14 @@ sign_chosen : (b : Bool) (x : Node) (e : Refusal) → (if b then Ret x else Fail
 sign_chosen true x e = refl
 sign_chosen false x e = refl
 
-pub sign_outcome : (call : Caller) (l : Lexeme) (at : Position) (n : Node) (t : Progress) → exec call (sign_on l at n) t ≡ outcome (sign_result l at n) t
+pub sign_outcome : (call : Caller) (l : Lexeme) (at : Position) (n : Node) (t : Progress) → exec call (run (P.sign_on l at n)) t ≡ outcome (sign_result l at n) t
 sign_outcome call l at n t = ap (λ q. exec call q t) (sign_chosen (sign_holds l n) (signed l at n) (malformed at n)) ∙ exec_answered call (sign_result l at n) t
 
 -- ---- calls
 
 pub none_given : (c : Context) (w : Live) (name : Position) (bang : Bool) (l : Lexeme) (at : Position) (k : Calling)
-    → is_list k ≡ false → given_at c w name bang l at k ≡ Fail (refusal (missing (codes "(") l) at)
+    → is_list k ≡ false
+    → run_from (P.arguments_by c w name bang k) (Some (l, at)) ≡ Fail (refusal (missing (codes "(") l) at)
 none_given c w name bang l at calls_by.Pair e = absurd cc
 none_given c w name bang l at calls_by.List e = absurd cc
 none_given c w name bang l at _ e = refl
@@ -73,12 +76,12 @@ binary_chosen k true true x e f = refl
 binary_chosen k true false x e f = refl
 binary_chosen k false c x e f = refl
 
-pub binary_done : (call : Caller) (d : Context) (w : Live) (parent : ℕ) (lhs : Node) (op : Lexeme) (at : Position) (rhs x : Node) (t : Progress) → operator_result op at lhs rhs ≡ Ok x → exec call (binary_next d w parent lhs op at rhs) t ≡ exec call (Call (BinaryOp d w at parent x) (λ y. Ret y)) t
+pub binary_done : (call : Caller) (d : Context) (w : Live) (parent : ℕ) (lhs : Node) (op : Lexeme) (at : Position) (rhs x : Node) (t : Progress) → operator_result op at lhs rhs ≡ Ok x → exec call (run (P.binary_next d w parent lhs op at rhs)) t ≡ exec call (Call (BinaryOp d w at parent x) (λ y. Ret y)) t
 binary_done call d w parent lhs op at rhs x t e =
     let k : Node → Prog Node = λ y. Call (BinaryOp d w at parent y) (λ z. Ret z) in
     ap (λ q. exec call q t) (binary_chosen k (boolean_holds op lhs) (boolean_holds op rhs) (operator_tree op at lhs rhs) (mismatched rhs) (mismatched lhs) ∙ ap (goes_with k) e)
 
-pub binary_refused : (call : Caller) (d : Context) (w : Live) (parent : ℕ) (lhs : Node) (op : Lexeme) (at : Position) (rhs : Node) (x : Refusal) (t : Progress) → operator_result op at lhs rhs ≡ Err x → exec call (binary_next d w parent lhs op at rhs) t ≡ R.Refused x t
+pub binary_refused : (call : Caller) (d : Context) (w : Live) (parent : ℕ) (lhs : Node) (op : Lexeme) (at : Position) (rhs : Node) (x : Refusal) (t : Progress) → operator_result op at lhs rhs ≡ Err x → exec call (run (P.binary_next d w parent lhs op at rhs)) t ≡ R.Refused x t
 binary_refused call d w parent lhs op at rhs x t e =
     let k : Node → Prog Node = λ y. Call (BinaryOp d w at parent y) (λ z. Ret z) in
     ap (λ q. exec call q t) (binary_chosen k (boolean_holds op lhs) (boolean_holds op rhs) (operator_tree op at lhs rhs) (mismatched rhs) (mismatched lhs) ∙ ap (goes_with k) e)

@@ -1,8 +1,4 @@
 pub mod Terms
-pub mod ReadingStatements
-pub mod ReadingSwitches
-pub mod ReadingFunctions
-pub mod ReadingClosures
 pub mod Reading
 pub mod Moves
 pub mod Nesting

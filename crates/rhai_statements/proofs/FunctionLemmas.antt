@@ -1,5 +1,6 @@
 -- Functions: what the reading program does where a leaf has decided.
-use Rattle.std.proofs.Common.{◌≡◌, ◌∙◌, ◌+◌, ℕ, Bool, true, false, List, ◌++◌, Result, ap, arith, if◌then◌else◌, refl, sym}
+use Rattle.std.proofs.Common.{◌≡◌, ◌∙◌, ◌+◌, ℕ, Some, Bool, true, false, List, ◌++◌, Result, ap, arith, if◌then◌else◌}
+use Rattle.std.proofs.Common.{refl, sym}
 use Rattle.rhai_lower.specs.Texts.{Text}
 use Rattle.rhai_lower.specs.Lexemes.{Lexeme}
 use Rattle.rhai_lower.specs.declared.position.Position.{Position}
@@ -20,8 +21,9 @@ use Rattle.rhai_grammar.specs.declared.filter.ExprFilter.{ExprFilter}
 use Rattle.rhai_grammar.specs.declared.filter.ExprFilter.TheVariants.{All}
 use Rattle.rhai_grammar.specs.declared.role.Calling.{Calling}
 use Rattle.rhai_grammar.specs.declared.role.Calling.TheVariants as calls_by
-use Rattle.rhai_reading.specs.Reading.{Call, Fail, Function, FunctionStatement, Know, ParameterList, function_end, function_on}
-use Rattle.rhai_reading.specs.Reading.{parameters_at, raised}
+use Rattle.rhai_grammar.specs.Productions.{part, raise}
+use Rattle.rhai_grammar.specs.Rules.{function_end, function_on, parameters_by}
+use Rattle.rhai_reading.specs.Reading.{Fail, Function, FunctionStatement, ParameterList, run, run_from}
 use Rattle.rhai_reading.specs.Running as R
 use Rattle.rhai_reading.specs.Running.{Done, Fails, Gives, Out, Progress, and_then, next_item, exec, guarded, after_peek, nested, result_of}
 use Rattle.rhai_reading.proofs.Steps.{nested_is, step_function_statement, step_parameter_list}
@@ -34,7 +36,7 @@ use Rattle.rhai_readers.specs.Frames.{context_of, live_of}
 use Rattle.rhai_readers.specs.Engines.{EngineValue}
 
 no_list : (function : Text) (l : Lexeme) (at : Position) (k : Calling) → is_list k ≡ false
-    → parameters_at function l at k ≡ Fail (refusal (no_parameters function l) at)
+    → run_from (parameters_by function k) (Some (l, at)) ≡ Fail (refusal (no_parameters function l) at)
 no_list function l at calls_by.Pair none = absurd cc
 no_list function l at calls_by.List none = absurd cc
 no_list function l at calls_by.Bang none = refl
@@ -49,7 +51,7 @@ parameters_refused function s e t readable none why left =
     let call = guarded (ParameterList function) s in
     let l = (next_item s).lexeme in
     step_parameter_list function s
-    ∙ ap (λ m. if m then R.Refused out_of_memory (after_peek s) else exec call (parameters_at function l (next_item s).at (calling l)) (after_peek s)) readable
+    ∙ ap (λ m. if m then R.Refused out_of_memory (after_peek s) else exec call (run_from (parameters_by function (calling l)) (Some (l, (next_item s).at))) (after_peek s)) readable
     ∙ ap (λ p. exec call p (after_peek s)) (no_list function l (next_item s).at (calling l) none)
     ∙ ap (λ r. R.Refused r (after_peek s)) (sym why)
     ∙ ap (λ (u : Cursor). R.Refused e (record s { cursor = u })) (sym left)
@@ -82,16 +84,16 @@ pub record Begun (c : Context) (w : Live) (at : Position) (d : Context) (here : 
 -- what follows the function
 abbrev pub after : (c : Context) (w : Live) (cs : List Comment) (first at : Position) (p : Bool) (s : Progress) → Ended → Progress → Out (node.Statement × Live)
 after c w cs first at p s ended t =
-    exec (guarded (FunctionStatement c w cs first at p) s) (function_end w at ended t.library) t
+    exec (guarded (FunctionStatement c w cs first at p) s) (run (function_end w at ended)) t
 
 pub begun_runs : (c : Context) (w : Live) (cs : List Comment) (first at : Position) (p : Bool) (d : Context) (here : Position) (s : Progress) → Begun c w at d here s
     → result_of (FunctionStatement c w cs first at p) s ≡ and_then (nested (result_of (Function d cs here p)) s) (after c w cs first at p s)
 begun_runs c w cs first at p d here s h =
     let call = guarded (FunctionStatement c w cs first at p) s in
-    let inside = Call (Function (level_up (in_function c w)) cs at p) (λ ended. Know (function_end w at ended)) in
+    let inside = run (part (Function (level_up (in_function c w)) cs at p) (function_end w at)) in
     step_function_statement c w cs first at p s
-    ∙ ap (λ b. exec call (if b then Know (function_on c w cs at p) else Fail (refusal cause.WrongFnDefinition first)) s) h.global
-    ∙ ap (λ b. exec call (if b then raised (in_function c w) at (λ deeper. Call (Function deeper cs at p) (λ ended. Know (function_end w at ended))) else Fail (refusal cause.TooManyFunctions at)) s) h.fits
+    ∙ ap (λ b. exec call (if b then run (function_on c w cs at p) else Fail (refusal cause.WrongFnDefinition first)) s) h.global
+    ∙ ap (λ b. exec call (if b then run (raise (in_function c w) at (λ deeper. part (Function deeper cs at p) (function_end w at))) else Fail (refusal cause.TooManyFunctions at)) s) h.fits
     ∙ ap (λ b. exec call (if b then inside else Fail (refusal cause.ExprTooDeep at)) s) h.room
     ∙ ap (λ o. and_then o (after c w cs first at p s)) (
     nested_is (FunctionStatement c w cs first at p) s (Function (level_up (in_function c w)) cs at p) s (omega arith)

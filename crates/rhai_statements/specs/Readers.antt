@@ -1,9 +1,10 @@
 -- What the readers of this crate require of the readers that they are lent, and what they promise, in one word each.
 -- The value of a reader has the engine that it reads under, and the readers.
-use Rattle.std.specs.Prelude.{ℕ, ◌≡◌, ◌+◌, Bool, List, Result, false}
+use Rattle.std.specs.Prelude.{ℕ, ◌≡◌, ◌+◌, Bool, List, Option, Result, Some, false}
 use Rattle.std.specs.declared.alloc.Global.{Global}
 use Rattle.std.specs.declared.rc.Rc.{Rc}
 use Rattle.std.specs.declared.rc.RcStr.{RcStr}
+use Rattle.rhai_lower.specs.Lexemes.{Lexeme}
 use Rattle.rhai_lower.specs.Nodes as node
 use Rattle.rhai_lower.specs.View.{statement_view}
 use Rattle.rhai_lower.specs.declared.ast.ScriptFuncDef.{ScriptFuncDef}
@@ -15,7 +16,9 @@ use Rattle.rhai_grammar.specs.Keys.{is_closure, key_of}
 use Rattle.rhai_grammar.specs.declared.error.ParseError.{ParseError}
 use Rattle.rhai_grammar.specs.declared.key.FnKey.{FnKey}
 use Rattle.rhai_grammar.specs.declared.role.StatementStart.TheVariants as start
-use Rattle.rhai_reading.specs.Reading.{Prog, Val, statement_at}
+use Rattle.rhai_grammar.specs.Rules.{fn_of, private_of, statement_by}
+use Rattle.rhai_reading.specs.Reading.{Prog, Take, Val, run, run_from}
+use Rattle.rhai_reading.specs.Running.{Progress, next_item}
 use Rattle.rhai_base.specs.Comments.{comments_of}
 use Rattle.rhai_base.specs.Frames.{FrameValue, SameSurroundings}
 use Rattle.rhai_base.specs.declared.settings.ParseSettings.{ParseSettings}
@@ -23,7 +26,7 @@ use Rattle.rhai_readers.specs.Frames.{context_of, live_of}
 use Rattle.rhai_readers.specs.Heights.{function_height}
 use Rattle.rhai_readers.specs.Parts.{ReadsSuch, TakesPart}
 use Rattle.rhai_readers.specs.Readers.{Covers, NestsAs, Reading, ReadsAs, ended_view, function}
-use Rattle.rhai_readers.specs.Readers.{function_statement, with_live}
+use Rattle.rhai_readers.specs.Readers.{function_statement, state_of, with_live}
 use Rattle.rhai_readers.specs.declared.shared.Shared.{Shared}
 use Rattle.rhai_statements.specs.declared.reader.Reader.{Reader}
 
@@ -67,9 +70,25 @@ TakesFn reader frame settings part comments =
     (part (context_of reader.engine.now frame settings) (live_of frame) (comments_of comments) settings.pos)
     (with_live statement_view frame)
 
--- a statement that begins with a comment
-abbrev pub documented : Part
-documented context live comments at = statement_at context live at start.Comment
+-- a function from its `fn` on
+abbrev pub fn_on : Part
+fn_on context live comments at = Take (run (fn_of context live comments at))
+
+-- a private function from its `private` on
+abbrev pub private_on : Part
+private_on context live comments at = Take (run (private_of context live comments at))
+
+-- the next token, which was looked at
+abbrev pub seen : Progress → Option (Lexeme × Position)
+seen s = Some ((next_item s).lexeme, (next_item s).at)
+
+-- A statement that begins with a comment is read, and a token is taken.
+abbrev pub TakesDocumented : {R : Type 0} → Reader R → FrameValue → ParseSettings → Shared → Result Stmt ParseError
+    → Shared → Type 0
+TakesDocumented reader frame settings old =
+    TakesPart reader.engine.now frame settings (1 + function_height reader.engine.now settings)
+    (run_from (statement_by (context_of reader.engine.now frame settings) (live_of frame) start.Comment)
+    (seen (state_of old))) (with_live statement_view frame) old
 
 -- a function as a statement, with these comments before it
 abbrev pub fn_statement : Comments → (first : Position) → (private : Bool) → Reading

@@ -3,7 +3,7 @@
 
 pub(crate) mod head;
 
-ghost use Rattle.std.specs.Prelude.{◌≡◌, IfOk, false, true, []};
+ghost use Rattle.std.specs.Prelude.{◌≡◌, IfOk, false, true};
 ghost use Rattle.std.specs.Rc.{rc_str_bytes};
 ghost use Rattle.rhai_lower.specs.View.{block_view, statement_view};
 ghost use Rattle.rhai_grammar.specs.Contexts.{nothing_live};
@@ -14,10 +14,12 @@ ghost use Rattle.rhai_base.specs.Comments.{comments_of};
 ghost use Rattle.rhai_readers.specs.Readers.{GoesOn, ended_view, function};
 ghost use Rattle.rhai_readers.specs.Readers.{head_view, names_of, state_of, statement, with_live};
 ghost use Rattle.rhai_readers.specs.Parts.{AtToken};
-ghost use Rattle.rhai_reading.specs.Reading.{fn_on, function_end, private_on};
+ghost use Rattle.rhai_grammar.specs.Rules.{function_end};
+ghost use Rattle.rhai_reading.specs.Reading.{run};
 ghost use Rattle.rhai_reading.specs.Running.{Caller, Gives, next_item, exec};
 ghost use Rattle.rhai_readers.specs.Heights.{Ends, function_height};
-ghost use Rattle.rhai_statements.specs.Readers.{Lends, Reads, TakesFn, documented, ReadsFn, fn_alone, fn_statement};
+ghost use Rattle.rhai_statements.specs.Readers.{Lends, Reads, ReadsFn, TakesDocumented, TakesFn, fn_alone, fn_on};
+ghost use Rattle.rhai_statements.specs.Readers.{fn_statement, private_on};
 
 use crate::function::head::{next_comments, next_parameter_list};
 use crate::reader::Reader;
@@ -49,7 +51,7 @@ impl<R: LentReaders> Reader<'_, R> {
     ) -> ParseResult<Stmt>
         requires more { is_end (next_item (state_of shared.old)).lexeme ≡ false }
         requires lent { Lends R.lent self.now statement frame.now settings shared.old }
-        ensures { TakesFn self.now frame.now settings documented [] shared.old result shared.new }
+        ensures { TakesDocumented self.now frame.now settings shared.old result shared.new }
     {
         let alloc = self.engine.alloc();
         let comment = take_text(alloc, shared.input)?;
@@ -216,8 +218,8 @@ fn end_function(
     ensures goes_on { GoesOn shared.old shared.new }
     ensures ends { is_closure (key_of key) ≡ false → Ends shared.old shared.new }
     ensures gives { (call : Caller) (live : _) → Gives (λ s. (statement_view s, live))
-        (exec call (function_end live pos (ended_view (key, function)) (state_of shared.old).library)
-        (state_of shared.old)) result (state_of shared.new) }
+        (exec call (run (function_end live pos (ended_view (key, function)))) (state_of shared.old)) result
+        (state_of shared.new) }
 {
     if shared.library.has(&key) {
         let why = ParseErrorType::FnDuplicatedDefinition(key.name.clone()?, key.params);

@@ -3,10 +3,11 @@
 ghost use Rattle.std.specs.Prelude.{◌≡◌, IfOk, option_map};
 ghost use Rattle.std.specs.Rc.{rc_str_bytes};
 ghost use Rattle.rhai_lower.specs.View.{view};
-ghost use Rattle.rhai_grammar.specs.Constructs.{guard_fault, iterated_fault};
+ghost use Rattle.rhai_grammar.specs.Constructs.{iterated_fault};
 ghost use Rattle.rhai_grammar.specs.Definitions.{catch_live, loop_live};
 ghost use Rattle.rhai_grammar.specs.Trees.{caught_name};
-ghost use Rattle.rhai_reading.specs.Reading.{guard_on, tested};
+ghost use Rattle.rhai_grammar.specs.Rules.{guard_on, tested};
+ghost use Rattle.rhai_reading.specs.Reading.{run};
 ghost use Rattle.rhai_reading.specs.Running.{Caller, Gives, Progress, exec};
 ghost use Rattle.rhai_readers.specs.Readers.{GoesOn, name_view, state_of};
 ghost use Rattle.rhai_readers.specs.Heights.{Steady};
@@ -63,8 +64,8 @@ pub(crate) fn catch_frame<'f>(
 pub(crate) fn end_guard(alloc: Global, shared: &mut Shared<'_>, guard: Expr) -> ParseResult<Expr>
     ensures goes_on { GoesOn shared.old shared.new }
     ensures steady { Steady shared.old shared.new }
-    ensures gives { (call : Caller) → Gives view (exec call (guard_on (view guard) (guard_fault (view guard)))
-        (state_of shared.old)) result (state_of shared.new) }
+    ensures gives { (call : Caller) → Gives view (exec call (run (guard_on (view guard))) (state_of shared.old)) result
+        (state_of shared.new) }
 {
     test_guard(alloc, &guard)?;
     guard_ends(alloc, shared.input)?;
@@ -73,8 +74,8 @@ pub(crate) fn end_guard(alloc: Global, shared: &mut Shared<'_>, guard: Expr) -> 
 
 /// What a `for` goes over, which is tested.
 pub(crate) fn end_iterated(alloc: Global, over: Expr) -> ParseResult<Expr>
-    ensures gives { (call : Caller) (t : Progress) → Gives view (exec call (tested (view over)
-        (iterated_fault (view over))) t) result t }
+    ensures gives { (call : Caller) (t : Progress) → Gives view (exec call (run (tested (view over)
+        (iterated_fault (view over)))) t) result t }
 {
     test_iterated(alloc, &over)?;
     Ok(over)

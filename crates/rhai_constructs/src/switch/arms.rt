@@ -6,8 +6,9 @@ ghost use Rattle.rhai_lower.specs.Nodes.{Node, block_value, made_block};
 ghost use Rattle.rhai_lower.specs.View.{statement_view, view, views};
 ghost use Rattle.rhai_grammar.specs.Causes.{MemoryIsNowhere, is_for_memory};
 ghost use Rattle.rhai_grammar.specs.Cursors.{left};
-ghost use Rattle.rhai_grammar.specs.Switches.{arm_fault, ends_arm};
-ghost use Rattle.rhai_reading.specs.Reading.{ArmEnd, DefaultEnd, arm_on, default_on};
+ghost use Rattle.rhai_grammar.specs.Rules.{arm_on, default_ends};
+ghost use Rattle.rhai_grammar.specs.Switches.{ends_arm};
+ghost use Rattle.rhai_reading.specs.Reading.{ArmEnd, DefaultEnd, run};
 ghost use Rattle.rhai_reading.specs.Running.{Caller, Done, Gives, Out, Progress, and_then, exec, recast, result_of};
 ghost use Rattle.rhai_readers.specs.Readers.{GoesOn, state_of};
 ghost use Rattle.rhai_constructs.specs.Switches.{action_view, arm_view, cases_view};
@@ -80,8 +81,8 @@ fn test_arm(
     ensures steady { Steady shared.old shared.new }
     ensures gives { (call : Caller) (guard action : Node) → call (ArmEnd ends) (state_of shared.old)
         ≡ result_of (ArmEnd ends) (state_of shared.old)
-        → Gives (λ done. (views cases.now, guard, action)) (exec call (arm_on (views cases.now) guard (action, ends)
-        (arm_fault (arms_view before.now) (views cases.now))) (state_of shared.old)) result (state_of shared.new) }
+        → Gives (λ done. (views cases.now, guard, action)) (exec call (run (arm_on (arms_view before.now)
+        (views cases.now) guard (action, ends))) (state_of shared.old)) result (state_of shared.new) }
 {
     test_cases(alloc, before, cases)?;
     arm_continues(alloc, shared.input, ends)
@@ -100,8 +101,8 @@ pub(crate) fn end_arm(
     ensures steady { Steady shared.old shared.new }
     ensures gives { (call : Caller) → call (ArmEnd does.ends) (state_of shared.old)
         ≡ result_of (ArmEnd does.ends) (state_of shared.old)
-        → Gives arm_view (exec call (arm_on (cases_view cases) (view guard) (action_view does)
-        (arm_fault (arms_view before.now) (cases_view cases))) (state_of shared.old)) result (state_of shared.new) }
+        → Gives arm_view (exec call (run (arm_on (arms_view before.now) (cases_view cases) (view guard)
+        (action_view does))) (state_of shared.old)) result (state_of shared.new) }
 {
     test_arm(alloc, shared, before, &cases, does.ends)?;
     let Action { expr, ends: _ } = does;
@@ -127,7 +128,7 @@ fn end_arms(
         ≡ result_of (ArmEnd ends) (state_of shared.old)
         → ((t : Progress) → left t.cursor.tokens ≤ left (state_of shared.old).cursor.tokens
         → call (DefaultEnd default) t ≡ result_of (DefaultEnd default) t)
-        → Gives (λ done. action) (exec call (default_on (action, ends) default) (state_of shared.old)) result
+        → Gives (λ done. action) (exec call (run (default_ends default (action, ends))) (state_of shared.old)) result
         (state_of shared.new) }
 {
     arm_continues(alloc, shared.input, ends)?;
@@ -147,7 +148,7 @@ pub(crate) fn end_default(
         ≡ result_of (ArmEnd does.ends) (state_of shared.old)
         → ((t : Progress) → left t.cursor.tokens ≤ left (state_of shared.old).cursor.tokens
         → call (DefaultEnd default) t ≡ result_of (DefaultEnd default) t)
-        → Gives view (exec call (default_on (action_view does) default) (state_of shared.old)) result
+        → Gives view (exec call (run (default_ends default (action_view does))) (state_of shared.old)) result
         (state_of shared.new) }
 {
     end_arms(alloc, shared, does.ends, default)?;

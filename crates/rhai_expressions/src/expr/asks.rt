@@ -9,7 +9,7 @@ ghost use Rattle.rhai_lower.specs.Nodes.{variable};
 ghost use Rattle.rhai_lower.specs.View.{named, view};
 ghost use Rattle.rhai_grammar.specs.Answers.{Answers};
 ghost use Rattle.rhai_grammar.specs.Causes.{MemoryIsNowhere, is_for_memory, refusal_of};
-ghost use Rattle.rhai_grammar.specs.Chains.{chained, index_refusal};
+ghost use Rattle.rhai_grammar.specs.Chains.{chained};
 ghost use Rattle.rhai_grammar.specs.Contexts.{Context};
 ghost use Rattle.rhai_grammar.specs.Delivered.{is_end, is_memory};
 ghost use Rattle.rhai_reading.specs.Reading.{NextOperator};
@@ -17,7 +17,8 @@ ghost use Rattle.rhai_grammar.specs.Modules.{module_fault};
 ghost use Rattle.rhai_grammar.specs.Signs.{sign_result};
 ghost use Rattle.rhai_grammar.specs.Trees.{is_variable};
 ghost use Rattle.rhai_trees.specs.Chains.{chain_view};
-ghost use Rattle.rhai_reading.specs.Reading.{index_on, tested};
+ghost use Rattle.rhai_grammar.specs.Rules.{index_on, tested};
+ghost use Rattle.rhai_reading.specs.Reading.{run};
 ghost use Rattle.rhai_reading.specs.Running.{Caller, Gives, Progress, next_item, exec, after_peek};
 ghost use Rattle.rhai_readers.specs.Readers.{GoesOn, Reads, state_of};
 ghost use Rattle.rhai_expressions.specs.NextOperators.{operator_pair};
@@ -63,8 +64,8 @@ pub(crate) fn end_index(
 ) -> ParseResult<Expr>
     ensures goes_on { GoesOn shared.old shared.new }
     ensures steady { Steady shared.old shared.new }
-    ensures gives { (call : Caller) → Gives view (exec call (index_on (view index)
-        (index_refusal (option_map (λ x. chain_view x.now) indexed.entry) (view index))) (state_of shared.old)) result
+    ensures gives { (call : Caller) → Gives view (exec call (run (index_on
+        (option_map (λ x. chain_view x.now) indexed.entry) (view index))) (state_of shared.old)) result
         (state_of shared.new) }
 {
     test_index(alloc, indexed, &index)?;
@@ -140,8 +141,8 @@ pub(crate) fn end_plain(
     operand: Chain,
 ) -> ParseResult<Chain>
     ensures gives { (call : Caller) (t : Progress) (context : Context) → context.settings ≡ settings_of settings
-        → context.known ≡ frame.now.known → Gives chain_view (exec call (tested (chain_view operand)
-        (module_fault context frame.now.live (chain_view operand))) t) result t }
+        → context.known ≡ frame.now.known → Gives chain_view (exec call (run (tested (chain_view operand)
+        (module_fault context frame.now.live (chain_view operand)))) t) result t }
 {
     test_module(frame, settings, &operand)?;
     Ok(operand)
@@ -155,8 +156,8 @@ pub(crate) fn end_operand(
     links: Vec<Link>,
 ) -> ParseResult<Chain>
     ensures gives { (call : Caller) (t : Progress) (context : Context) → context.settings ≡ settings_of settings
-        → context.known ≡ frame.now.known → Gives chain_view (exec call (tested (chained (chain_view operand)
-        (linked links)) (module_fault context frame.now.live (chain_view operand))) t) result t }
+        → context.known ≡ frame.now.known → Gives chain_view (exec call (run (tested (chained (chain_view operand)
+        (linked links)) (module_fault context frame.now.live (chain_view operand)))) t) result t }
 {
     test_module(frame, settings, &operand)?;
     Ok(operand.join(links)?)

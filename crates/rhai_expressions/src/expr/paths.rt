@@ -5,10 +5,11 @@ ghost use Rattle.rhai_lower.specs.Nodes.{variable};
 ghost use Rattle.rhai_lower.specs.View.{named};
 ghost use Rattle.rhai_grammar.specs.Beginnings.{qualifies};
 ghost use Rattle.rhai_grammar.specs.Contexts.{Context};
-ghost use Rattle.rhai_reading.specs.Reading.{Path, Postfix, call_on};
+ghost use Rattle.rhai_reading.specs.Reading.{Path, Postfix};
 ghost use Rattle.rhai_reading.specs.Running.{Fails, next_item, exec, guarded, result_of};
 ghost use Rattle.rhai_readers.specs.Readers.{GoesOn, Reads, state_of};
 ghost use Rattle.rhai_expressions.specs.ExprViews.{variable_view};
+ghost use Rattle.rhai_expressions.specs.Operands.{call_if};
 ghost use Rattle.rhai_readers.specs.Heights.{Steady};
 
 use rhai_base::Frame;
@@ -72,7 +73,7 @@ pub(crate) fn named_operand(
     ensures found { (c : Context) → IfOk result (λ n.
         result_of (Postfix c frame.now.live (variable (named name.value) pos)) (state_of shared.old)
         ≡ exec (guarded (Postfix c frame.now.live (variable (named name.value) pos)) (state_of shared.old))
-        (call_on c frame.now.live (variable (named n.name.value) n.pos) n.called) (state_of shared.new)) }
+        (call_if c frame.now.live (variable (named n.name.value) n.pos) n.called) (state_of shared.new)) }
     ensures refused { (c : Context) → IfErr result (λ e. Fails
         (result_of (Postfix c frame.now.live (variable (named name.value) pos)) (state_of shared.old)) e
         (state_of shared.new)) }

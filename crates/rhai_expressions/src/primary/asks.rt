@@ -1,6 +1,6 @@
 //! Leaves joined for operands of one token, as the reading program joins them: a value, a name, a word.
 
-ghost use Rattle.std.specs.Prelude.{◌≡◌, IfErr, IfOk, false, true};
+ghost use Rattle.std.specs.Prelude.{◌≡◌, IfErr, IfOk, Some, false, true};
 ghost use Rattle.rhai_lower.specs.View.{view};
 ghost use Rattle.rhai_grammar.specs.Answers.{Answers};
 ghost use Rattle.rhai_grammar.specs.Causes.{MemoryIsNowhere};
@@ -11,9 +11,11 @@ ghost use Rattle.rhai_trees.specs.Linked.{is_linked};
 ghost use Rattle.rhai_reading.specs.Reading.{Primary};
 ghost use Rattle.std.specs.Rc.{rc_str_bytes};
 ghost use Rattle.rhai_lower.specs.Lexemes.{Lexeme};
+ghost use Rattle.rhai_lower.specs.declared.position.Position.{Position};
 ghost use Rattle.rhai_grammar.specs.Beginnings.{beginning, excludes_use, is_value};
 ghost use Rattle.rhai_grammar.specs.Contexts.{Context, Live};
-ghost use Rattle.rhai_reading.specs.Reading.{name_at};
+ghost use Rattle.rhai_grammar.specs.Rules.{name_of};
+ghost use Rattle.rhai_reading.specs.Reading.{run_from};
 ghost use Rattle.rhai_reading.specs.Running.{Caller, Done, Gives, next_item, exec, result_of};
 ghost use Rattle.rhai_readers.specs.Frames.{context_of, live_of};
 ghost use Rattle.rhai_readers.specs.Engines.{EngineValue};
@@ -65,10 +67,10 @@ pub(crate) fn used_name(
 ) -> ParseResult<Chain>
     ensures goes_on { GoesOn shared.old shared.new }
     ensures steady { Steady shared.old shared.new }
-    ensures gives { (engine : EngineValue) (call : Caller) (token : Lexeme) → excluded ≡ excludes_use token
-        → Gives chain_view (exec call (name_at (context_of engine frame.now settings) (live_of frame.now)
-        (rc_str_bytes name) pos token (state_of shared.old).library) (state_of shared.old)) result
-        (state_of shared.new) }
+    ensures gives { (engine : EngineValue) (call : Caller) (token : Lexeme) (at : Position)
+        → excluded ≡ excludes_use token
+        → Gives chain_view (exec call (run_from (name_of (context_of engine frame.now settings) (live_of frame.now)
+        (rc_str_bytes name) pos) (Some (token, at))) (state_of shared.old)) result (state_of shared.new) }
 {
     let closure = settings.has_flag(ParseSettingFlags::CLOSURE_SCOPE);
     let captures = !excluded && frame.is_captured(closure, shared.library, &name);

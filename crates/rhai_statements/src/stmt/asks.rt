@@ -6,11 +6,12 @@ ghost use Rattle.rhai_lower.specs.Lexemes.{lexeme};
 ghost use Rattle.rhai_lower.specs.Nodes.{assignment};
 ghost use Rattle.rhai_lower.specs.View.{statement_view, view};
 ghost use Rattle.rhai_grammar.specs.Contexts.{Context, allows_looping};
+ghost use Rattle.rhai_grammar.specs.Rules.{tested};
 ghost use Rattle.rhai_grammar.specs.Starts.{starts};
 ghost use Rattle.rhai_grammar.specs.Statements.{ends_itself};
 ghost use Rattle.rhai_grammar.specs.Targets.{is_constant_use, target_fault, update_of};
 ghost use Rattle.rhai_base.specs.Settings.{settings_of};
-ghost use Rattle.rhai_reading.specs.Reading.{tested};
+ghost use Rattle.rhai_reading.specs.Reading.{run};
 ghost use Rattle.rhai_reading.specs.Running.{Caller, Gives, Progress, exec};
 ghost use Rattle.rhai_readers.specs.Readers.{GoesOn, Reads, name_view, var_name};
 ghost use Rattle.rhai_readers.specs.Heights.{Steady};
@@ -53,9 +54,10 @@ pub(crate) fn end_assignment(
     target: Expr,
     value: Expr,
 ) -> ParseResult<Stmt>
-    ensures gives { (call : Caller) (t : Progress) → Gives statement_view (exec call (tested
+    ensures gives { (call : Caller) (t : Progress) → Gives statement_view (exec call (run (tested
         (assignment (update_of (lexeme op)) (view target) (view value) pos)
-        (target_fault (is_constant_use frame.now.live.slots (view target)) (lexeme op) pos (view target))) t) result t }
+        (target_fault (is_constant_use frame.now.live.slots (view target)) (lexeme op) pos (view target)))) t)
+        result t }
     ensures open { IfOk result (λ s. ends_itself (statement_view s) ≡ false) }
 {
     let constant = frame.is_constant(slot_of(&target));

@@ -12,7 +12,8 @@ use Rattle.rhai_base.specs.Libraries.{ended, library_of}
 use Rattle.rhai_base.specs.Uses.{uses_of}
 use Rattle.rhai_readers.specs.Frames.{context_of, live_of}
 use Rattle.rhai_readers.specs.Readers.{names_of, state_of}
-use Rattle.rhai_reading.specs.Reading.{Know, captured_on, closure_added}
+use Rattle.rhai_grammar.specs.Rules.{captured, closure_added}
+use Rattle.rhai_reading.specs.Reading.{run}
 use Rattle.rhai_reading.specs.Running.{Done, Refused, adding, exec}
 use Rattle.rhai_readers.specs.Heights.{Holds}
 use Rattle.rhai_readers.proofs.Heights.{closure_ends}
@@ -37,9 +38,9 @@ returns-clause-gives c = λ engine call.
     let params : c.in_ok-key.key.params ≡ length (all_names us names) = ap (λ (f : Ended). f.key.params) is in
     let value : view c.in_ok-value.value ≡ x = c.in_ok-value.ensures ∙ search (rules, params, named) in
     let new : is_new e.key t.library ≡ true = ap (λ (f : Ended). is_new f.key t.library) (sym is) ∙ search rules in
-    let k = Know (closure_added at e x) in
-    let uses : exec call (captured_on us context w k) s ≡ exec call k t =
-    ap (λ xs. exec call (captured_on (uses_of xs) context w k) s) (sym c.deref.ensures.value) ∙ c.in_ok-use_captured.ensures.uses engine call k in
+    let k = closure_added at e x in
+    let uses : exec call (run (captured us context w k)) s ≡ exec call (run k) t =
+    ap (λ xs. exec call (run (captured (uses_of xs) context w k)) s) (sym c.deref.ensures.value) ∙ c.in_ok-use_captured.ensures.uses engine call k in
     uses ∙ added call at e x t new ∙ ap (λ y. Done y (adding e t)) (sym value ∙ sym c.from_value.ensures)
     ∙ ap (λ l. Done (chain_view c.from_value.result) (record t { library = l })) (ap (with_ended t.library) (sym is) ∙ sym c.in_ok-add.ensures.ok)
 
@@ -59,9 +60,9 @@ returns-then-has-clause-gives c = λ engine call.
     let is : ended c.in_ok-key.key c.in_ok-key.function ≡ e = c.in_ok-key.ensures number copied ∙ search rules in
     let there : is_new e.key t.library ≡ false = ap (λ (f : Ended). is_new f.key t.library) (sym is) ∙ search rules in
     let copy : rc_str_bytes c.in_ok-key.key.name ≡ rc_str_bytes c.in_ok-clone-2.field-0 = search rules in
-    let k = Know (closure_added at e x) in
-    let uses : exec call (captured_on us context w k) s ≡ exec call k t =
-    ap (λ xs. exec call (captured_on (uses_of xs) context w k) s) (sym c.deref.ensures.value) ∙ c.in_ok-use_captured.ensures.uses engine call k in (
+    let k = closure_added at e x in
+    let uses : exec call (run (captured us context w k)) s ≡ exec call (run k) t =
+    ap (λ xs. exec call (run (captured (uses_of xs) context w k)) s) (sym c.deref.ensures.value) ∙ c.in_ok-use_captured.ensures.uses engine call k in (
       λ told. uses ∙ not_added call at e x t there ∙ ap (λ (f : Ended). Refused (duplicate_of f.key at) t) (sym is)
           ∙ ap (λ n. Refused (refusal (cause.FnDuplicatedDefinition n c.in_ok-key.key.params) at) t) copy,
       search rules,

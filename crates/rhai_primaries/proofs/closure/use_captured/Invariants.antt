@@ -6,15 +6,17 @@ use Rattle.rhai_readers.specs.Frames.{context_of, live_of}
 use Rattle.rhai_readers.specs.Engines.{EngineValue}
 use Rattle.rhai_readers.specs.Readers.{GoesOn, state_of}
 use Rattle.rhai_readers.specs.Heights.{Steady}
-use Rattle.rhai_reading.specs.Reading.{Prog, captured_on}
+use Rattle.rhai_grammar.specs.Productions.{Production}
+use Rattle.rhai_grammar.specs.Rules.{captured}
+use Rattle.rhai_reading.specs.Reading.{run}
 use Rattle.rhai_reading.specs.Running.{Caller, exec}
 use Rattle.rhai_primaries.proofs.closure.use_captured.Given as goal
 
 abbrev pub invariant-loop-used : goal.invariant-loop-used
 invariant-loop-used l = record {
-  same : (engine : EngineValue) (call : Caller) (p : Prog Node)
-      → exec call (captured_on (uses_of l.captured) (context_of engine l.frame l.fn.settings) (live_of l.frame) p) (state_of l.fn.shared)
-      ≡ exec call (captured_on (uses_of (drop l.used-index l.captured)) (context_of engine l.frame l.fn.settings) (live_of l.frame) p) (state_of l.shared);
+  same : (engine : EngineValue) (call : Caller) (p : Production Node)
+      → exec call (run (captured (uses_of l.captured) (context_of engine l.frame l.fn.settings) (live_of l.frame) p)) (state_of l.fn.shared)
+      ≡ exec call (run (captured (uses_of (drop l.used-index l.captured)) (context_of engine l.frame l.fn.settings) (live_of l.frame) p)) (state_of l.shared);
   goes_on : GoesOn l.fn.shared l.shared;
   steady : Steady l.fn.shared l.shared;
 }

@@ -10,7 +10,7 @@ use Rattle.rhai_expressions.proofs.PrimaryLemmas.{refused_name}
 use Rattle.rhai_expressions.proofs.primary.asks.used_name.Goals as goal
 
 pub returns-in_err-node-clause-gives : goal.returns-in_err-node-clause-gives
-returns-in_err-node-clause-gives c = λ engine call token known.
+returns-in_err-node-clause-gives c = λ engine call token at known.
     let p = err_from_is_err_and c.from_residual-in_err-node.result c.from_residual-in_err-node.ensures.1 in
     let frame = c.args.frame.now in
     rw (p.1, p.2) (

@@ -5,19 +5,21 @@ use Rattle.rhai_reading.specs.Running.{Progress, exec, guarded}
 use Rattle.rhai_readers.proofs.Given.{gives_so}
 use Rattle.rhai_expressions.proofs.OperandLemmas.{ends_counted, ends_looked}
 use Rattle.rhai_readers.specs.Frames.{context_of, live_of}
-use Rattle.rhai_expressions.specs.Operands.{Counted, operand_ends}
+use Rattle.rhai_grammar.specs.Rules.{operand_ends}
+use Rattle.rhai_reading.specs.Reading.{run}
+use Rattle.rhai_expressions.specs.Operands.{Counted}
 use Rattle.rhai_readers.specs.Readers.{operand, state_of}
 use Rattle.rhai_expressions.proofs.reader.Reader.parse_ends.Goals as goal
 use Rattle.rhai_expressions.proofs.reader.Reader.parse_ends.Goals.{In_ok-ends_here}
 
 -- the ends are what they were before the look at the next token
 ends : (g : _) (c : In_ok-ends_here g) (s : Progress) → left (state_of c.args.shared.now).cursor.tokens ≤ left s.cursor.tokens
-    → exec (guarded (operand c.args.self.now.engine.now c.args.frame.now c.args.settings) s) (operand_ends (context_of c.args.self.now.engine.now c.args.frame.now c.args.settings) (live_of c.args.frame.now) (chain_view c.args.primary)) (state_of c.args.shared.now)
-    ≡ exec (guarded (operand c.args.self.now.engine.now c.args.frame.now c.args.settings) s) (operand_ends (context_of c.args.self.now.engine.now c.args.frame.now c.args.settings) (live_of c.args.frame.now) (chain_view c.args.primary)) (state_of c.ends_here.new.shared)
+    → exec (guarded (operand c.args.self.now.engine.now c.args.frame.now c.args.settings) s) (run (operand_ends (context_of c.args.self.now.engine.now c.args.frame.now c.args.settings) (live_of c.args.frame.now) (chain_view c.args.primary))) (state_of c.args.shared.now)
+    ≡ exec (guarded (operand c.args.self.now.engine.now c.args.frame.now c.args.settings) s) (run (operand_ends (context_of c.args.self.now.engine.now c.args.frame.now c.args.settings) (live_of c.args.frame.now) (chain_view c.args.primary))) (state_of c.ends_here.new.shared)
 ends g c s less =
     let call = guarded (operand c.args.self.now.engine.now c.args.frame.now c.args.settings) s in
     let context = context_of c.args.self.now.engine.now c.args.frame.now c.args.settings in
-    let rest = operand_ends context (live_of c.args.frame.now) (chain_view c.args.primary) in
+    let rest = run (operand_ends context (live_of c.args.frame.now) (chain_view c.args.primary)) in
     sym (ends_looked context (live_of c.args.frame.now) (chain_view c.args.primary) s (state_of c.args.shared.now) less)
     ∙ ap (λ (q : Progress). exec call rest q) (sym c.ends_here.ensures.after)
 

@@ -34,7 +34,8 @@ returns-in_ok-excluded-in-Name g c = record {
         let context = context_of c.args.self.now.engine.now c.args.frame.now c.args.settings in
         let live = live_of c.args.frame.now in
         gives_so chain_view c.used_name.result (state_of c.used_name.new.shared) (named context live h)
-        (c.used_name.ensures.gives c.args.self.now.engine.now (guarded (Primary context live) (state_of c.args.shared.now)) _ h.is_so);
+        (c.used_name.ensures.gives c.args.self.now.engine.now (guarded (Primary context live) (state_of c.args.shared.now)) _
+        c.in_ok-token.field-0.now.1 h.is_so);
   };
   counts = grind arith;
 }

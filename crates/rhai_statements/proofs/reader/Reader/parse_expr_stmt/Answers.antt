@@ -1,4 +1,5 @@
 use Rattle.std.proofs.Common.{arith}
+use Rattle.std.proofs.lemmas.Result.{err_from_is_err_and}
 use Rattle.rhai_lower.specs.View.{statement_view}
 use Rattle.rhai_reading.specs.Running.{guarded}
 use Rattle.rhai_readers.specs.Readers.{expr_statement, state_of}
@@ -7,11 +8,13 @@ use Rattle.rhai_readers.proofs.Given.{gives_so}
 use Rattle.rhai_statements.proofs.StmtReaders as rule
 
 pub returns-in_err-value-clause-reads : goal.returns-in_err-value-clause-reads
-returns-in_err-value-clause-reads g c = record {
-  goes_on = grind arith;
-  stays = grind arith;
-  reads = grind (arith, rule.parse_expr_stmt);
-}
+returns-in_err-value-clause-reads g c =
+    let p = err_from_is_err_and c.from_residual-in_err-value.result c.from_residual-in_err-value.ensures.1 in
+    rw (p.1, p.2) (record {
+      goes_on = grind arith;
+      stays = grind arith;
+      reads = grind (arith, rule.parse_expr_stmt);
+    })
 
 pub returns-clause-reads : goal.returns-clause-reads
 returns-clause-reads g c = record {

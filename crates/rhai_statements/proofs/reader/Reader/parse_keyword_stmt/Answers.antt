@@ -5,7 +5,8 @@ use Rattle.rhai_readers.specs.Frames.{context_of, live_of}
 use Rattle.rhai_readers.specs.Readers.{state_of, statement, with_live}
 use Rattle.rhai_readers.proofs.Given.{gives_so}
 use Rattle.rhai_readers.proofs.Heights.{room_same}
-use Rattle.rhai_statements.proofs.CommentLemmas.{function_starts}
+use Rattle.rhai_grammar.specs.declared.role.StatementStart.TheVariants as start
+use Rattle.rhai_statements.proofs.CommentLemmas.{function_starts, private_starts, statement_starts}
 use Rattle.rhai_statements.proofs.StmtReaders as rule
 use Rattle.rhai_statements.proofs.reader.Reader.parse_keyword_stmt.Goals as goal
 
@@ -47,7 +48,17 @@ returns-in-Private g c = record {
   stays =
       let same = room_same c.args.self.now.engine.now c.at-settings.result c.args.settings c.at-settings.ensures.settings in
       record { nesting = grind (arith, same); library = grind arith };
-  reads = grind (arith, rule.parse_stmt);
+  reads =
+      let engine = c.args.self.now.engine.now in
+      let frame = c.args.frame.now in
+      let context = context_of engine frame c.args.settings in
+      let inside = context_of engine frame c.at-settings.result in
+      let same : inside ≡ context = ap (λ (x : Settings). record context { settings = x }) c.at-settings.ensures.settings in
+      let old = state_of c.args.shared.now in
+      let begun = c.requires.keyword in
+      gives_so (with_live statement_view frame) c.parse_private_fn.result (state_of c.parse_private_fn.new.shared)
+      (private_starts context inside (live_of frame) c.at-settings.result.pos old old begun.readable (search rules) (sym same) (search rules) begun.looked)
+      (c.parse_private_fn.ensures.reads (statement engine frame c.args.settings) old (grind arith));
 }
 
 pub returns-in-Comment : goal.returns-in-Comment
@@ -58,5 +69,15 @@ returns-in-Comment g c = record {
   stays =
       let same = room_same c.args.self.now.engine.now c.at-settings.result c.args.settings c.at-settings.ensures.settings in
       record { nesting = grind (arith, same); library = grind arith };
-  reads = grind (arith, rule.parse_stmt);
+  reads =
+      let engine = c.args.self.now.engine.now in
+      let frame = c.args.frame.now in
+      let context = context_of engine frame c.args.settings in
+      let inside = context_of engine frame c.at-settings.result in
+      let same : inside ≡ context = ap (λ (x : Settings). record context { settings = x }) c.at-settings.ensures.settings in
+      let old = state_of c.args.shared.now in
+      let begun = c.requires.keyword in
+      gives_so (with_live statement_view frame) c.parse_documented_fn.result (state_of c.parse_documented_fn.new.shared)
+      (statement_starts context inside (live_of frame) start.Comment old old begun.readable (search rules) (sym same) begun.looked)
+      (c.parse_documented_fn.ensures.reads (statement engine frame c.args.settings) old (grind arith));
 }

@@ -4,7 +4,7 @@ use Rattle.rhai_grammar.specs.Cursors.{cursor_of}
 use Rattle.rhai_base.specs.Comments.{comments_of}
 use Rattle.rhai_readers.specs.Frames.{context_of, live_of}
 use Rattle.rhai_readers.specs.Readers.{function_statement, state_at, state_of, with_live}
-use Rattle.rhai_reading.specs.Reading.{private_on}
+use Rattle.rhai_statements.specs.Readers.{private_on}
 use Rattle.rhai_reading.specs.Running.{exec, guarded, nested, result_of}
 use Rattle.std.proofs.lemmas.Result.{err_from_is_err_and}
 use Rattle.rhai_readers.proofs.Given.{gives_so}
