@@ -20,6 +20,7 @@ lines_of_functions = record {
   read_8 = reads_script _ _ refl refl refl;
   read_9 = reads_script _ _ refl refl refl;
   read_10 = reads_script _ _ refl refl refl;
+  read_11 = reads_script _ _ refl refl refl;
   refused_1 = refuses _ refl refl;
   refused_2 = refuses _ refl refl;
   refused_3 = refuses _ refl refl;

@@ -1,5 +1,5 @@
 -- Lines of tokens that are functions and doc comments, and lines that are refused there.
-use Rattle.std.specs.Prelude.{None, Some, false, true, codes, pos, [], ◌∷◌}
+use Rattle.std.specs.Prelude.{None, Some, false, true, codes, pos, [], ◌∷◌, ◌++◌}
 use Rattle.rhai_lower.specs.Lexemes.{Integer, String, Name, Reserved, Comment, Sign}
 use Rattle.rhai_lower.specs.Nodes as node
 use Rattle.rhai_lower.specs.Positions.{nowhere, place}
@@ -77,6 +77,11 @@ pub record LinesOfFunctions : Type 0 where
       (Name (codes "f"), 10) ∷ (Sign token.Unit, 11) ∷ (Sign token.LeftBrace, 14) ∷ (Sign token.RightBrace, 15) ∷ []) 16
       node.no_statements ((ended (Some (codes "i64")) (codes "f") false [] [] (node.braces node.no_statements
       (place 1 14) (place 1 15))) ∷ [])
+  -- `/** a */ /** b */ fn f() {}`
+  pub read_11 : IsScript ((Comment (codes "/** a */"), 1) ∷ (Comment (codes "/** b */"), 10) ∷ (Sign token.Fn, 19) ∷
+      (Name (codes "f"), 22) ∷ (Sign token.Unit, 23) ∷ (Sign token.LeftBrace, 26) ∷ (Sign token.RightBrace, 27) ∷ []) 28
+      (node.no_statements) ((ended None (codes "f") false [] ((codes "/** a */" ++ (10 ∷ codes "/** b */")) ∷ [])
+      (node.braces node.no_statements (place 1 26) (place 1 27))) ∷ [])
   -- `fn f() {}`
   pub refused_1 : Refuses expression ((Sign token.Fn, 1) ∷ (Name (codes "f"), 4) ∷ (Sign token.Unit, 5) ∷
       (Sign token.LeftBrace, 8) ∷ (Sign token.RightBrace, 9) ∷ []) 10 (cause.BadInput (cause.UnexpectedInput
