@@ -6,3 +6,4 @@ pub mod MarkLemmas
 pub mod SimilarLemmas
 pub mod SnippetLemmas
 pub mod TextLemmas
+pub mod PrintLemmas

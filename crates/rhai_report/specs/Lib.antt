@@ -3,6 +3,7 @@ pub mod Names
 pub mod Lines
 pub mod Marks
 pub mod Notes
+pub mod Printed
 pub mod Reasons
 pub mod Reports
 pub mod Similar

@@ -23,6 +23,11 @@ line_at text at =
       stop = length before + prefix_len is_inside (drop at text);
     }
 
+-- The line of this number begins at this byte.
+abbrev pub BeginsLine : Text → (number at : ℕ) → Type 0
+BeginsLine text number at = ((line_at text at).number ≡ number) × ((line_at text at).start ≡ at)
+
 -- The `b` of these three lines is in the second one, which is the bytes 2 and 3.
-example : line_at (codes "a\nbc\nd") 2 ≡ record { number = 2; start = 2; stop = 4 }
-example = refl
+example : (line_at (codes "a\nbc\nd") 2 ≡ record { number = 2; start = 2; stop = 4 })
+    × BeginsLine (codes "a\nbc\nd") 2 2
+example = (refl, (refl, refl))

@@ -1,17 +1,20 @@
 -- Marks: bytes of a file, with the line and column of the first one. A script may begin after the start of its file.
+use lib.Utf8.{encode}
 use Rattle.std.specs.Prelude.{◌≡◌, ◌⊎◌, ◌+◌, ◌-◌, ◌^◌, ◌<◌, ◌≤◌, ◌==◌, ℕ, Bool, false, Option, Some, length, min}
-use Rattle.std.specs.Prelude.{codes, option_map, refl, slice_index_or, slice_range}
+use Rattle.std.specs.Prelude.{codes, drop, option_map, refl, slice_index_or, slice_range, take}
 use Rattle.std.specs.Bool.{MatchBool}
 use Rattle.std.specs.List.{slice_get}
 use Rattle.std.specs.Rc.{rc_str_bytes}
-use Rattle.std.specs.Str.{IsCharBoundary, chars}
+use Rattle.std.specs.Str.{IsCharBoundary, chars, encode_utf8_all}
+use Rattle.rhai_lower.specs.Positions.{place}
 use Rattle.rhai_lower.specs.Texts.{Text}
+use Rattle.rhai_lower.specs.declared.position.Position.{Position}
 use Rattle.rhai_lower.specs.declared.token.LexError.TheVariants as error
 use Rattle.rhai_lower.specs.declared.token.Token.{Token}
 use Rattle.rhai_lower.specs.declared.token.Token.TheVariants as token
 use Rattle.rhai_tokenizer.specs.declared.tokens.Span.{Span}
 use Rattle.rhai_tokenizer.specs.declared.tokens.Tokens.{Tokens}
-use Rattle.rhai_report.specs.Lines.{line_at}
+use Rattle.rhai_report.specs.Lines.{BeginsLine, line_at}
 use Rattle.rhai_report.specs.declared.mark.Mark.{Mark}
 
 -- the byte of a file that is this one of its script, which begins at byte `from`; at most the greatest number
@@ -26,12 +29,18 @@ span_in_file from s = record { start = byte_in_file from s.start; stop = byte_in
 abbrev pub column_at : Text → (at : ℕ) → ℕ
 column_at text at = min (length (chars (slice_range text (line_at text at).start at)) + 1) (2 ^ 64 - 1)
 
+-- The byte of a text at which a position is: in the line of its number, after one character less than its column.
+pub record IsByteAt (text : Text) (at : Position) (byte : ℕ) : Type 0 where
+  pub start : ℕ
+  pub begins : BeginsLine text at.line start
+  pub column : byte ≡ start + length (encode_utf8_all (take (at.column - 1) (chars (drop start text))))
+
 -- After a first line of 12 bytes, the bytes 3 to 5 of a script are 15 to 17 of its file. The `c` of the two lines `a`
--- and `bc` is in column 2.
+-- and `bc` is in column 2, and byte 3.
 example : (span_in_file 12 (record { start = 3; stop = 5 }) ≡ record { start = 15; stop = 17 })
-    × (column_at (codes "a\nbc") 3 ≡ 2)
-unfolding chars
-example = (refl, refl)
+    × (column_at (codes "a\nbc") 3 ≡ 2) × IsByteAt (codes "a\nbc") (place 2 2) 3
+unfolding chars encode
+example = (refl, refl, record { start = 2; begins = (refl, refl); column = refl })
 
 -- The mark of these bytes of a text: it has their line and, if a character begins there, their column.
 pub record Marks (text : Text) (bytes : Span) (m : Mark) : Type 0 where

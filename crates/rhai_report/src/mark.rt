@@ -1,12 +1,12 @@
 //! `Mark`: a position in a file, and the bytes that are underlined there.
 
-ghost use Rattle.std.specs.Prelude.{◌≡◌, IfSome, false, option_map};
+ghost use Rattle.std.specs.Prelude.{◌≡◌, ◌+◌, IfSome, false, option_map};
 ghost use Rattle.std.specs.Str.{IsCharBoundary};
-ghost use Rattle.rhai_report.specs.Lines.{line_at};
-ghost use Rattle.rhai_report.specs.Marks.{Marks, MarksPart, MarksToken, column_at, is_escape, span_in_file};
+ghost use Rattle.rhai_report.specs.Lines.{BeginsLine, line_at};
+ghost use Rattle.rhai_report.specs.Marks.{IsByteAt, Marks, MarksPart, MarksToken, column_at, is_escape, span_in_file};
 
 use crate::line::line_of;
-use crate::text::characters;
+use crate::text::{characters, first_characters};
 use rhai_lower::{LexError, Position, Token};
 use rhai_tokenizer::Span;
 
@@ -50,28 +50,34 @@ pub fn in_file(from: usize, span: Span) -> Span
     }
 }
 
-// The byte after the first line feeds of a text.
-fn after_feeds(text: &str, feeds: usize) -> Option<usize> {
-    let Some(last) = feeds.checked_sub(1) else {
-        return Some(0);
-    };
-    let (feed, _) = text.match_indices('\n').nth(last)?;
-    Some(feed.saturating_add(1))
+// The byte at which the line begins that is after so many line feeds, if there are as many.
+fn after_feeds(text: &str, feeds: usize) -> Option<usize>
+    ensures { IfSome result (BeginsLine text.now (feeds + 1)) }
+{
+    let bytes = text.as_bytes();
+    let (mut at, mut passed) = (0, 0);
+    while passed < feeds {
+        if *bytes.get(at)? == b'\n' {
+            passed += 1;
+        }
+        at += 1;
+    }
+    Some(at)
 }
 
 // The byte of a text at which a position is. Without one, or where lines or columns are no longer counted, there is
 // none.
-fn byte_at(text: &str, pos: Position) -> Option<usize> {
+fn byte_at(text: &str, pos: Position) -> Option<usize>
+    ensures { IfSome result (IsByteAt text.now pos) }
+{
     let (line, column) = (pos.line()?, pos.column()?);
     if line == u16::MAX || column == u16::MAX {
         return None;
     }
     let start = after_feeds(text, usize::from(line.saturating_sub(1)))?;
     let rest = text.get(start..)?;
-    let (offset, _) = rest
-        .char_indices()
-        .nth(usize::from(column.saturating_sub(1)))?;
-    Some(start.saturating_add(offset))
+    let before = first_characters(rest, usize::from(column.saturating_sub(1)));
+    (before.len() < rest.len()).then_some(start.saturating_add(before.len()))
 }
 
 // The length of the escape that an error of a string is about; 0 for any other token.

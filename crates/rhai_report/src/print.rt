@@ -1,9 +1,12 @@
 //! How a report is printed: a message, the line where, and notes. docs/FORMAT.md describes it.
 
-ghost use Rattle.std.specs.Prelude.{◌≡◌, ◌≤◌, ◌<◌, ◌-◌, ◌^◌};
+ghost use Rattle.std.specs.Prelude.{◌≡◌, ◌≤◌, ◌<◌, ◌-◌, ◌^◌, OnOk, length, string_bytes};
+ghost use Rattle.std.specs.Fmt.{decimal};
+ghost use Rattle.rhai_report.specs.Printed.{Prints, PrintsMark, PrintsNote, PrintsNotes, carets, edge, greatest_line};
+ghost use Rattle.rhai_report.specs.Printed.{line, place, remark, remarks, title};
 
 use crate::mark::Mark;
-use crate::report::{Report, Source};
+use crate::report::{Note, Report, Source};
 use crate::snippet::{Snippet, snippet_of};
 use crate::style::Style;
 use crate::visible::{push_as_wide, push_fill, push_visible};
@@ -27,6 +30,7 @@ struct Look {
 fn digits_of(number: usize) -> usize
     ensures fits { number < 10 ^ result }
     ensures least { (0 < number → 10 ^ (result - 1) ≤ number) × (number ≡ 0 → result ≡ 1) }
+    ensures printed { result ≡ length (decimal number) }
 {
     match number.checked_ilog10() {
         Some(power) => usize::try_from(power).unwrap_or(0).saturating_add(1),
@@ -35,7 +39,9 @@ fn digits_of(number: usize) -> usize
 }
 
 // The greatest number of a line that a report shows.
-fn greatest_line(report: &Report<'_>) -> usize {
+fn greatest_line(report: &Report<'_>) -> usize
+    ensures { result ≡ greatest_line report.now }
+{
     let mut greatest = report.mark.map_or(0, |mark| mark.line);
     for note in &report.notes {
         greatest = greatest.max(note.mark.map_or(0, |mark| mark.line));
@@ -44,7 +50,9 @@ fn greatest_line(report: &Report<'_>) -> usize {
 }
 
 // The edge of a line: the number of a line, or blanks, and a bar.
-fn push_edge(out: &mut String, look: Look, number: Option<usize>) -> Result<(), AllocError> {
+fn push_edge(out: &mut String, look: Look, number: Option<usize>) -> Result<(), AllocError>
+    ensures { OnOk result (string_bytes out.new ≡ edge look.style look.digits number (string_bytes out.old)) }
+{
     let Look { style, digits, .. } = look;
     let Style { edge, plain, .. } = style;
     out.push_str(edge)?;
@@ -65,7 +73,10 @@ fn push_place(
     look: Look,
     source: Source<'_>,
     mark: Mark,
-) -> Result<(), AllocError> {
+) -> Result<(), AllocError>
+    ensures { OnOk result (string_bytes out.new
+        ≡ place look.style look.digits source.entry.name.now mark (string_bytes out.old)) }
+{
     let Style { edge, plain, .. } = look.style;
     push_fill(out, ' ', look.digits)?;
     write!(out, "{edge}-->{plain} ")?;
@@ -76,7 +87,9 @@ fn push_place(
 }
 
 // The line of a snippet, after its edge.
-fn push_line(out: &mut String, snippet: Snippet<'_>) -> Result<(), AllocError> {
+fn push_line(out: &mut String, snippet: Snippet<'_>) -> Result<(), AllocError>
+    ensures { OnOk result (string_bytes out.new ≡ line snippet.entry (string_bytes out.old)) }
+{
     let Snippet {
         before,
         marked,
@@ -97,7 +110,10 @@ fn push_line(out: &mut String, snippet: Snippet<'_>) -> Result<(), AllocError> {
 }
 
 // The carets below what is marked, after the edge of their line.
-fn push_carets(out: &mut String, look: Look, snippet: Snippet<'_>) -> Result<(), AllocError> {
+fn push_carets(out: &mut String, look: Look, snippet: Snippet<'_>) -> Result<(), AllocError>
+    ensures { OnOk result (string_bytes out.new
+        ≡ carets look.style look.colour.now snippet.entry (string_bytes out.old)) }
+{
     let alloc = *out.allocator();
     let mut text = String::new(alloc);
     text.push_str(if snippet.cut_front { " ..." } else { " " })?;
@@ -116,12 +132,10 @@ fn push_carets(out: &mut String, look: Look, snippet: Snippet<'_>) -> Result<(),
 }
 
 // A place, its line, and what is underlined there.
-fn push_mark(
-    out: &mut String,
-    look: Look,
-    source: Source<'_>,
-    mark: Mark,
-) -> Result<(), AllocError> {
+fn push_mark(out: &mut String, look: Look, source: Source<'_>, mark: Mark) -> Result<(), AllocError>
+    ensures { OnOk result (PrintsMark look.style look.colour.now look.digits source.entry mark (string_bytes out.old)
+        (string_bytes out.new)) }
+{
     push_place(out, look, source, mark)?;
     push_edge(out, look, None)?;
     out.push_str("\n")?;
@@ -133,22 +147,21 @@ fn push_mark(
 }
 
 // The title of a report or note.
-fn push_title(out: &mut String, style: Style, word: &str, text: &str) -> Result<(), AllocError> {
-    let Style {
-        error,
-        note,
-        strong,
-        plain,
-        ..
-    } = style;
-    let colour = if word == "error" { error } else { note };
+fn push_title(out: &mut String, look: Look, word: &str, text: &str) -> Result<(), AllocError>
+    ensures { OnOk result (string_bytes out.new
+        ≡ title look.style look.colour.now word.now text.now (string_bytes out.old)) }
+{
+    let Look { style, colour, .. } = look;
+    let Style { strong, plain, .. } = style;
     write!(out, "{colour}{word}{plain}{strong}: ")?;
     push_visible(out, text)?;
     write!(out, "{plain}\n")
 }
 
 // A note without a place.
-fn push_remark(out: &mut String, look: Look, text: &str) -> Result<(), AllocError> {
+fn push_remark(out: &mut String, look: Look, text: &str) -> Result<(), AllocError>
+    ensures { OnOk result (string_bytes out.new ≡ remark look.style look.digits text.now (string_bytes out.old)) }
+{
     let Style {
         edge,
         strong,
@@ -156,33 +169,67 @@ fn push_remark(out: &mut String, look: Look, text: &str) -> Result<(), AllocErro
         ..
     } = look.style;
     push_fill(out, ' ', look.digits)?;
-    write!(out, " {edge}={plain} {strong}note{plain}: ")?;
+    write!(out, " {edge}={plain} ")?;
+    write!(out, "{strong}note{plain}: ")?;
     push_visible(out, text)?;
     out.push_str("\n")
 }
 
-// The notes, those without a place first.
-fn push_notes(out: &mut String, look: Look, report: &Report<'_>) -> Result<(), AllocError> {
-    for note in report.notes.iter().filter(|note| note.mark.is_none()) {
-        push_remark(out, look, &note.text)?;
-    }
-    for note in &report.notes {
-        if let Some(mark) = note.mark {
-            push_title(out, look.style, "note", &note.text)?;
-            push_mark(out, look, report.source, mark)?;
+// The notes without a place.
+fn push_remarks(out: &mut String, look: Look, notes: &[Note]) -> Result<(), AllocError>
+    ensures { OnOk result (string_bytes out.new ≡ remarks look.style look.digits notes.now (string_bytes out.old)) }
+{
+    for note in notes {
+        if note.mark.is_none() {
+            push_remark(out, look, &note.text)?;
         }
     }
     Ok(())
 }
 
+// A note with a place; nothing for one without.
+fn push_note(
+    out: &mut String,
+    look: Look,
+    source: Source<'_>,
+    note: &Note,
+) -> Result<(), AllocError>
+    ensures { OnOk result (PrintsNote look.style look.colour.now look.digits source.entry note.now.mark
+        (string_bytes note.now.text) (string_bytes out.old) (string_bytes out.new)) }
+{
+    let Some(mark) = note.mark else {
+        return Ok(());
+    };
+    push_title(out, look, "note", &note.text)?;
+    push_mark(out, look, source, mark)
+}
+
+// The notes with a place.
+fn push_notes(
+    out: &mut String,
+    look: Look,
+    source: Source<'_>,
+    notes: &[Note],
+) -> Result<(), AllocError>
+    ensures { OnOk result (PrintsNotes look.style look.colour.now look.digits source.entry notes.now
+        (string_bytes out.old) (string_bytes out.new)) }
+{
+    for note in notes {
+        push_note(out, look, source, note)?;
+    }
+    Ok(())
+}
+
 /// Adds a report to a text. Returns `AllocError` if memory runs out.
-pub fn print_report(out: &mut String, style: Style, report: &Report<'_>) -> Result<(), AllocError> {
+pub fn print_report(out: &mut String, style: Style, report: &Report<'_>) -> Result<(), AllocError>
+    ensures { OnOk result (Prints style report.now (string_bytes out.old) (string_bytes out.new)) }
+{
     let look = Look {
         style,
         colour: style.error,
         digits: digits_of(greatest_line(report)),
     };
-    push_title(out, style, "error", &report.message)?;
+    push_title(out, look, "error", &report.message)?;
     if let Some(mark) = report.mark {
         push_mark(out, look, report.source, mark)?;
     }
@@ -190,5 +237,6 @@ pub fn print_report(out: &mut String, style: Style, report: &Report<'_>) -> Resu
         colour: style.note,
         ..look
     };
-    push_notes(out, look, report)
+    push_remarks(out, look, &report.notes)?;
+    push_notes(out, look, report.source, &report.notes)
 }

@@ -1,6 +1,7 @@
 //! How texts are shown: what would move or hide others in a terminal is replaced, and widths are those of a terminal.
 
-ghost use Rattle.std.specs.Prelude.{◌≡◌};
+ghost use Rattle.std.specs.Prelude.{◌≡◌, OnOk, string_bytes};
+ghost use Rattle.rhai_report.specs.Printed.{as_wide, filled, visible};
 ghost use Rattle.rhai_report.specs.Visible.{shown_as};
 
 use std::alloc::AllocError;
@@ -27,7 +28,9 @@ pub fn shown(character: char) -> char
 }
 
 /// Adds the characters of a text as they are shown. Returns `AllocError` if memory runs out.
-pub fn push_visible(out: &mut String, text: &str) -> Result<(), AllocError> {
+pub fn push_visible(out: &mut String, text: &str) -> Result<(), AllocError>
+    ensures { OnOk result (string_bytes out.new ≡ visible text.now (string_bytes out.old)) }
+{
     for character in text.chars() {
         out.push(shown(character))?;
     }
@@ -35,7 +38,9 @@ pub fn push_visible(out: &mut String, text: &str) -> Result<(), AllocError> {
 }
 
 /// Adds a character as often as there are columns. Returns `AllocError` if memory runs out.
-pub fn push_fill(out: &mut String, fill: char, columns: usize) -> Result<(), AllocError> {
+pub fn push_fill(out: &mut String, fill: char, columns: usize) -> Result<(), AllocError>
+    ensures { OnOk result (string_bytes out.new ≡ filled fill columns (string_bytes out.old)) }
+{
     for _ in 0..columns {
         out.push(fill)?;
     }
@@ -44,7 +49,9 @@ pub fn push_fill(out: &mut String, fill: char, columns: usize) -> Result<(), All
 
 /// Adds what is as wide as a shown text: tabs where that has tabs, and else `fill`. Returns `AllocError` if memory runs
 /// out.
-pub fn push_as_wide(out: &mut String, fill: char, text: &str) -> Result<(), AllocError> {
+pub fn push_as_wide(out: &mut String, fill: char, text: &str) -> Result<(), AllocError>
+    ensures { OnOk result (string_bytes out.new ≡ as_wide fill text.now (string_bytes out.old)) }
+{
     for (index, part) in text.split('\t').enumerate() {
         if index > 0 {
             out.push('\t')?;
