@@ -61,28 +61,39 @@ with_entry p a peak n h =
     let both : max (max p (min (a + 1) (2 ^ 64 - 1))) (min (a + 1) (2 ^ 64 - 1) + 8 * (n + 1)) ≤ max p (a + 8 * (n + 2)) = max-le first (omega (arith, less, right)) in
     omega (arith, h, both)
 
--- so it is for the entry point, which is entered in counts of its own, and takes their peak
+-- so is the entry point alone
+entry_alone : (p a n : ℕ) → max p (one_more a) ≤ max p (a + 8 * (n + 2))
+entry_alone p a n =
+    with_entry p a (max p (one_more a)) n (le-max_left (max p (one_more a)) (one_more a + 8 * (n + 1)))
+
+-- so it is for the entry point, which is entered in counts of its own: the peak is raised to theirs, before and after
 pub entry_stays : (engine : EngineValue) (settings : ParseSettings) (old begun read left : Counts)
-    → begun ≡ with_entered old → left ≡ with_peak old read.peak → StaysWithin 1 engine settings begun read
-    → StaysWithin 2 engine settings old left
+    → begun ≡ with_entered old → left ≡ with_peak (with_peak old begun.peak) read.peak
+    → StaysWithin 1 engine settings begun read → StaysWithin 2 engine settings old left
 entry_stays engine settings old begun read left enters reached stays = λ positive more.
     let n = settings.max_expr_depth + engine.max_function_expr_depth in
-    let h : read.peak ≤ max begun.peak (begun.active + 8 * (settings.max_expr_depth + engine.max_function_expr_depth + 1))
-    = stays positive more in
-    let i : left.peak ≡ max old.peak read.peak = ap (λ (c : Counts). c.peak) reached in
-    let j : read.peak ≤ max (max old.peak (one_more old.active)) (one_more old.active + 8 * (settings.max_expr_depth + engine.max_function_expr_depth + 1))
-    = subst (λ (c : Counts). read.peak ≤ max c.peak (c.active + 8 * (settings.max_expr_depth + engine.max_function_expr_depth + 1))) enters h in
-    subst (λ m. m ≤ max old.peak (old.active + 8 * (settings.max_expr_depth + engine.max_function_expr_depth + 2))) (sym i)
-    (max-le (le-max_left old.peak (old.active + 8 * (settings.max_expr_depth + engine.max_function_expr_depth + 2)))
-    (with_entry old.peak old.active read.peak (settings.max_expr_depth + engine.max_function_expr_depth) j))
+    let top = old.active + 8 * (n + 2) in
+    let h : read.peak ≤ max begun.peak (begun.active + 8 * (n + 1)) = stays positive more in
+    let i : left.peak ≡ max (max old.peak begun.peak) read.peak = ap (λ (c : Counts). c.peak) reached in
+    let j : read.peak ≤ max (max old.peak (one_more old.active)) (one_more old.active + 8 * (n + 1))
+    = subst (λ (c : Counts). read.peak ≤ max c.peak (c.active + 8 * (n + 1))) enters h in
+    let k : begun.peak ≤ max old.peak top =
+    subst (λ (c : Counts). c.peak ≤ max old.peak top) (sym enters) (entry_alone old.peak old.active n) in
+    subst (λ m. m ≤ max old.peak top) (sym i)
+    (max-le (max-le (le-max_left old.peak top) k) (with_entry old.peak old.active read.peak n j))
 
 -- all else of the counts is as before
-pub keeps_counts : (old left : Counts) (n : ℕ) → left ≡ with_peak old n → KeepsCounts old left
-keeps_counts old left n reached = record {
-  begun = ap (λ (c : Counts). c.begun) reached;
-  active = ap (λ (c : Counts). c.active) reached;
-  peak = subst (λ (c : Counts). old.peak ≤ c.peak) (sym reached) (le-max_left old.peak n);
-}
+pub keeps_counts : (old begun left : Counts) (n : ℕ) → begun ≡ with_entered old
+    → left ≡ with_peak (with_peak old begun.peak) n → KeepsCounts old left
+keeps_counts old begun left n enters reached =
+    let enter : begun.peak ≡ max old.peak (one_more old.active) = ap (λ (c : Counts). c.peak) enters in
+    let reach : left.peak ≡ max (max old.peak begun.peak) n = ap (λ (c : Counts). c.peak) reached in
+    record {
+      begun = ap (λ (c : Counts). c.begun) reached;
+      active = ap (λ (c : Counts). c.active) reached;
+      peak = omega (arith, reach);
+      entered = omega (arith, enter, reach);
+    }
 
 -- ---- from below
 

@@ -4,6 +4,7 @@ use Rattle.rhai_grammar.specs.Contexts.{Context, Live}
 use Rattle.rhai_grammar.specs.Cursors.{Cursor}
 use Rattle.rhai_grammar.specs.Libraries.{Library}
 use Rattle.rhai_grammar.specs.Promises.{IsWritten}
+use Rattle.rhai_grammar.specs.Settings.{one_more}
 use Rattle.rhai_reading.specs.Reading.{Script}
 use Rattle.rhai_grammar.specs.Forms.{depth}
 use Rattle.rhai_grammar.specs.Promises.{Written, written}
@@ -21,11 +22,12 @@ StaysWithin more engine settings before after =
     ≤ max before.peak (before.active + 8 * (settings.max_expr_depth + engine.max_function_expr_depth + more))
 
 -- As many functions and closures have begun as before, and as many parsing functions are active. The greatest number
--- that was active at once is no lower.
+-- that was active at once is no lower, and the entry point was one more than those before.
 pub record KeepsCounts (before after : Counts) : Type 0 where
   pub begun : after.begun ≡ before.begun
   pub active : after.active ≡ before.active
   pub peak : before.peak ≤ after.peak
+  pub entered : one_more before.active ≤ after.peak
 
 -- For each script that fits and spells the stream, at least as many readers were active at once as its expressions,
 -- blocks, functions and closures are inside one another, with the entry point; or as many as a `usize` counts.

@@ -227,6 +227,7 @@ impl Engine {
         );
         let mut counts = state.counts;
         counts.nest_enter();
+        let entered = counts;
         let read = self.parse_script(
             state.input,
             state.lib,
@@ -236,6 +237,8 @@ impl Engine {
             &mut state.imports,
             chosen,
         );
+        // Whatever was read, the entry point was active.
+        state.counts.raise_peak(&entered);
         state.counts.raise_peak(&counts);
         drop(known);
         state.global_imports = around;

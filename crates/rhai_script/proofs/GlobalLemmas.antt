@@ -1,5 +1,6 @@
 -- What a host is promised of a text, from what is promised of its stream.
-use Rattle.std.proofs.Common.{◌≡◌, ◌∙◌, Bool, true, false, IfOk, List, Result, ap, arith, refl, subst, sym, true≢false}
+use Rattle.std.proofs.Common.{◌≡◌, ◌∙◌, ◌≤◌, Bool, true, false, IfOk, List, [], Result, ap, arith, inl, inr, refl}
+use Rattle.std.proofs.Common.{subst, sym, true≢false}
 use Rattle.std.specs.Prelude.{Err, Ok, ◌&&◌, ◌||◌, if◌then◌else◌, map, Vec}
 use Rattle.std.specs.Rc.{rc_str_bytes}
 use Rattle.std.specs.declared.alloc.Global.{Global}
@@ -99,6 +100,7 @@ module _ (engine : EngineValue) (constants : Constants) (limits : Limits) (text 
           script_depth = subst (λ s. NestsAsWritten context nothing_live before s (reaching script.nest_peak))
               (streams_agree limits tokens ps spelled) deep;
           refusal_spans = tt;
+          refusal_entered = tt;
           incomplete = tt;
           final = tt;
         };
@@ -111,9 +113,9 @@ module _ (engine : EngineValue) (constants : Constants) (limits : Limits) (text 
       (IsGlobalLevel after) before after start left (Err refused.error)
       → (is_for_memory refused.error ≡ false → HasRead start left true) → refused.spans ≡ tokens.spans
       → refused.is_incomplete ≡ (if is_for_memory refused.error then false else may_go_on left tokens.spans.items)
-      → NestsWithin engine refused.nest_peak
+      → NestsWithin engine refused.nest_peak → 1 ≤ refused.nest_peak
       → ReadsTextAsScript engine constants limits text before after (Err refused)
-  script_refused refused reads memory spans incomplete nests = record {
+  script_refused refused reads memory spans incomplete nests entered = record {
     reads = text_read (Script context nothing_live) (IsGlobalLevel after) before after limits text
         (Err refused.error) tokens left
         (refusals_stand_at_tokens.script context nothing_live).named read reads memory;
@@ -126,6 +128,7 @@ module _ (engine : EngineValue) (constants : Constants) (limits : Limits) (text 
           script_spans = tt;
           script_depth = tt;
           refusal_spans = λ told. ap (λ (s : Vec Span Global). s.items) spans ∙ spelled.spans;
+          refusal_entered = inl (ap (λ (s : Vec Span Global). s.items) spans ∙ spelled.spans, entered);
           incomplete = λ told. goes_on told ∙ ap (may_go_on left) spelled.spans;
           final = λ told ends.
               let r = reads.refused told in
@@ -171,9 +174,9 @@ module _ (engine : EngineValue) (constants : Constants) (limits : Limits) (text 
       → ReadsScript context nothing_live before after (cursor_of stream) left answer slots modules
       → UnlessMemory (HasRead (cursor_of stream) left) answer → refused.spans ≡ tokens.spans
       → refused.is_incomplete ≡ (if is_for_memory refused.error then false else may_go_on left tokens.spans.items)
-      → NestsWithin engine refused.nest_peak
+      → NestsWithin engine refused.nest_peak → 1 ≤ refused.nest_peak
       → ReadsTextAsScript engine constants limits text before after (Err refused)
-  host_refused stream answer slots modules refused is err reads memory spans incomplete nests =
+  host_refused stream answer slots modules refused is err reads memory spans incomplete nests entered =
       let r = subst (λ s. ReadsScript context nothing_live before after
       (cursor_of s) left answer slots modules) is reads in
       let r0 = subst (λ a. ReadsScript context nothing_live before after start left a slots modules) err r in
@@ -182,14 +185,14 @@ module _ (engine : EngineValue) (constants : Constants) (limits : Limits) (text 
       script_refused refused
       (read_err (Script context nothing_live) (λ f read. IsScript f.0 after read slots modules)
       (IsGlobalLevel after) before after
-      start left refused.error r0) m0 spans incomplete nests
+      start left refused.error r0) m0 spans incomplete nests entered
 
 -- Where the tokenizer had no memory, nothing is promised but of the refusal itself.
 pub script_unread : (engine : EngineValue) (constants : Constants) (limits : Limits) (text : Text) (before : Library)
     (refused : Refused)
-    → refused.error ≡ no_memory → refused.is_incomplete ≡ false → refused.nest_peak ≡ 0
+    → refused.error ≡ no_memory → refused.is_incomplete ≡ false → refused.spans.items ≡ [] → refused.nest_peak ≡ 0
     → ReadsTextAsScript engine constants limits text before before (Err refused)
-script_unread engine constants limits text before refused error complete peak =
+script_unread engine constants limits text before refused error complete no_spans peak =
     let out : is_for_memory refused.error ≡ true = ap is_for_memory error in
     record {
       reads = nothing_read (Script (script_context engine constants) nothing_live)
@@ -198,6 +201,7 @@ script_unread engine constants limits text before refused error complete peak =
         script_spans = tt;
         script_depth = tt;
         refusal_spans = λ told. absurd (true≢false (sym out ∙ told));
+        refusal_entered = inr (out, no_spans, peak);
         incomplete = λ told. absurd (true≢false (sym out ∙ told));
         final = λ told. absurd (true≢false (sym out ∙ told));
       };

@@ -35,7 +35,8 @@ use Rattle.rhai_base.specs.States.{IsFresh}
 use Rattle.rhai_base.specs.declared.settings.ParseSettings.{ParseSettings}
 use Rattle.rhai_readers.specs.Engines.{EngineValue, expr_settings, script_settings, sizes_of}
 use Rattle.rhai_parser.specs.Scripts.{Constants, IsMadeOf, IsScriptOf, Makes, ReadsScript}
-use Rattle.rhai_parser.specs.Nesting.{NestsAsWritten}
+use Rattle.rhai_grammar.specs.Settings.{one_more}
+use Rattle.rhai_parser.specs.Nesting.{KeepsCounts, NestsAsWritten}
 use Rattle.rhai_parser.specs.Starts.{KeepsOrder, StateValue, live_in, starts_in}
 use Rattle.rhai_tokenizer.specs.Readings.{Reads}
 use Rattle.rhai_tokenizer.specs.declared.limits.Limits.{Limits}
@@ -267,3 +268,10 @@ pub order_kept : (engine : EngineValue) (state : StateValue) (stream : Stream) (
 order_kept engine state stream held constants after n keeps =
     let k = subst (λ c. KeepsOrder engine c (library_of state.lib.now.entries) after) n.counts keeps in
     subst (λ es. KeepsOrder engine none_yet (library_of es) after) n.lib k
+
+-- The entry point was active, so the peak is 1 at least.
+pub entered_so : (before after : Counts) (peak : ℕ) → before ≡ none_yet → KeepsCounts before after
+    → after.peak ≡ peak → 1 ≤ peak
+unfolding one_more
+entered_so before after peak new counts is =
+    subst (λ n. 1 ≤ n) is (subst (λ (b : Counts). one_more b.active ≤ after.peak) new counts.entered)

@@ -1,6 +1,8 @@
 -- What is promised of a script's text, with a library and variables from outside.
+use mathlib.Core.Logic.{inl, inr}
+use Rattle.std.proofs.Common.{lit≤}
 use Rattle.std.specs.Prelude.{◌≡◌, ℕ, ◌+◌, ◌*◌, ◌≤◌, Bool, true, false, Err, IfErr, IfOk, List, [], ◌∷◌, Ok, Result}
-use Rattle.std.specs.Prelude.{length, map, refl, take, ◌&&◌, ◌||◌, ◌==◌}
+use Rattle.std.specs.Prelude.{length, map, refl, take, ◌&&◌, ◌||◌, ◌==◌, ◌⊎◌}
 use Rattle.std.specs.Rc.{rc_str_bytes}
 use Rattle.rhai_lower.specs.Lexemes.{Faulty, Lexeme, UnterminatedString}
 use Rattle.rhai_lower.specs.Texts.{Text}
@@ -84,6 +86,13 @@ NestsWithin engine peak =
     1 ≤ engine.max_expr_depth → 1 ≤ engine.max_function_expr_depth
     → peak ≤ 8 * (engine.max_expr_depth + engine.max_function_expr_depth + 2)
 
+-- What a refusal tells of the bytes of tokens, and of how many parsing functions were active at once. The parser was
+-- called with the tokens of the text: the bytes are theirs, and the entry point at least was active. Or memory ran out
+-- before: there are no bytes, and none was active.
+abbrev pub NestsItself : (spans told : List Span) → (for_memory : Bool) → (peak : ℕ) → Type 0
+NestsItself spans told for_memory peak =
+    ((told ≡ spans) × (1 ≤ peak)) ⊎ ((for_memory ≡ true) × (told ≡ []) × (peak ≡ 0))
+
 -- What a host gets of a text that is these pieces, beside the parser's answer; `left` is what the parser left of its
 -- stream.
 pub record IsGiven (context : Context) (limits : Limits) (ps : List Piece) (before : Library) (left : Cursor)
@@ -93,6 +102,8 @@ pub record IsGiven (context : Context) (limits : Limits) (ps : List Piece) (befo
     pub script_depth : IfOk result (λ script.
         NestsAsWritten context nothing_live before (cursor_in limits ps) (reaching script.nest_peak))
     pub refusal_spans : IfErr result (λ r. is_for_memory r.error ≡ false → r.spans.items ≡ spans limits at_start 0 ps)
+    pub refusal_entered : IfErr result (λ r.
+        NestsItself (spans limits at_start 0 ps) r.spans.items (is_for_memory r.error) r.nest_peak)
     pub incomplete : IfErr result (λ r. is_for_memory r.error ≡ false
         → r.is_incomplete ≡ may_go_on left (spans limits at_start 0 ps))
     pub final : IfErr result (λ r. is_for_memory r.error ≡ false → r.is_incomplete ≡ false
@@ -111,6 +122,8 @@ pub record ReadsTextAsScript (engine : EngineValue) (constants : Constants) (lim
     pub refusal_nests : IfErr result (λ r. NestsWithin engine r.nest_peak)
     pub memory : IfErr result (λ r. is_for_memory r.error ≡ true → r.is_incomplete ≡ false)
 
--- The last token of `x "` touches the end, and that of `x ` does not.
+-- The last token of `x "` touches the end, and that of `x ` does not. A refusal of the empty text tells the bytes of
+-- its end mark, and that one was active; or no bytes, if memory ran out before.
 example : (touches_end (span 0 1 ∷ span 2 3 ∷ span 3 3 ∷ []) ≡ true) × (touches_end (span 0 1 ∷ span 2 2 ∷ []) ≡ false)
-example = (refl, refl)
+    × NestsItself (span 0 0 ∷ []) (span 0 0 ∷ []) false 1 × NestsItself (span 0 0 ∷ []) [] true 0
+example = (refl, refl, inl (refl, lit≤ tt), inr (refl, refl, refl))

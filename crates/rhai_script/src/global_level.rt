@@ -1,6 +1,6 @@
 //! `compile_global_level`: reads a script's text with what a host knows. It gives what the host goes on with.
 
-ghost use Rattle.std.specs.Prelude.{◌≡◌, false, IfErr, IfOk, if◌then◌else◌, map};
+ghost use Rattle.std.specs.Prelude.{◌≡◌, ◌≤◌, [], false, IfErr, IfOk, if◌then◌else◌, map};
 ghost use Rattle.std.specs.Rc.{rc_str_bytes};
 ghost use Rattle.rhai_lower.specs.Lexemes.{lexeme};
 ghost use Rattle.rhai_grammar.specs.Causes.{MemoryIsNowhere, is_for_memory, no_memory};
@@ -55,7 +55,8 @@ pub struct Refused {
     /// text, or at a string that the end of the text cuts. Where it is not so, no script has tokens that begin with
     /// those that the parser saw. It is not so where memory ran out.
     pub is_incomplete: bool,
-    /// The greatest number of parsing functions that were active at once.
+    /// The greatest number of parsing functions that were active at once: at least 1, or 0 if memory ran out before the
+    /// tokens were known.
     pub nest_peak: usize,
 }
 
@@ -91,6 +92,7 @@ fn read_stream(
     ensures deep { IfOk result.script (λ script. NestsAsWritten (script_context engine.now constants.entry)
         nothing_live (library_of lib.old.entries) (cursor_of input.old) (reaching result.nest_peak)) }
     ensures nests { NestsWithin engine.now result.nest_peak }
+    ensures entered { 1 ≤ result.nest_peak }
     ensures memory { UnlessMemory (HasRead (cursor_of input.old) (cursor_of input.new)) result.script }
     ensures nowhere { IfErr result.script MemoryIsNowhere }
     ensures grows { Begins (library_of lib.old.entries) (library_of lib.new.entries) }
@@ -186,6 +188,7 @@ fn make_refused(
 // The refusal where memory ran out before the tokens of a text were known.
 fn out_of_memory(alloc: Global) -> Refused
     ensures error { result.error ≡ no_memory }
+    ensures spans { result.spans.items ≡ [] }
     ensures incomplete { result.is_incomplete ≡ false }
     ensures peak { result.nest_peak ≡ 0 }
 {

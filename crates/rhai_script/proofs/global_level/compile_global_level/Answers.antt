@@ -1,5 +1,5 @@
 -- A text is read as the stream of its pieces is.
-use Rattle.std.proofs.Common.{◌≡◌, ◌∙◌, Err, Ok, ap, false, if◌then◌else◌, refl, rules, subst, sym}
+use Rattle.std.proofs.Common.{◌≡◌, ◌∙◌, ◌≤◌, Err, Ok, ap, false, if◌then◌else◌, refl, rules, subst, sym}
 use Rattle.rhai_grammar.specs.Causes.{is_for_memory}
 use Rattle.rhai_grammar.specs.Cursors.{cursor_of}
 use Rattle.rhai_base.specs.Libraries.{library_of}
@@ -13,7 +13,7 @@ pub returns-in_default-clause-reads : goal.returns-in_default-clause-reads
 returns-in_default-clause-reads c =
     let e = c.out_of_memory.ensures in
     script_unread c.args.engine.now c.args.constants c.args.limits c.args.text.now (library_of c.args.lib.now.entries)
-    c.out_of_memory.result e.error e.incomplete e.peak
+    c.out_of_memory.result e.error e.incomplete e.spans e.peak
 
 pub returns-in_default-clause-grows : goal.returns-in_default-clause-grows
 returns-in_default-clause-grows c = begins_same c.args.lib.now.entries c.args.lib.now.entries refl
@@ -49,4 +49,4 @@ returns-in-Err-clause-reads c =
     (library_of read.new.lib.entries) tokens left given c.new-input.result read.result.script read.result.scope _
     c.make_refused.result c.new-input.ensures (err ∙ ap (λ (f : _). Err f) (sym made.error)) e.reads e.memory made.spans
     (made.incomplete ∙ ap (λ f. if is_for_memory f then false else may_go_on left tokens.spans.items) (sym made.error))
-    (subst (NestsWithin c.args.engine.now) (sym made.peak) e.nests)
+    (subst (NestsWithin c.args.engine.now) (sym made.peak) e.nests) (subst (λ n. 1 ≤ n) (sym made.peak) e.entered)

@@ -6,7 +6,8 @@ use Rattle.rhai_grammar.specs.NumberedLibraries.{IsOrderly}
 use Rattle.rhai_base.specs.Counts.{counts_of}
 use Rattle.rhai_base.specs.Libraries.{library_of}
 use Rattle.rhai_readers.specs.Engines.{script_settings}
-use Rattle.rhai_script.proofs.StateLemmas.{IsNew, fresh, nests_parsed, order_kept, script_left, script_parsed}
+use Rattle.rhai_script.proofs.StateLemmas.{IsNew, entered_so, fresh, nests_parsed, order_kept, script_left}
+use Rattle.rhai_script.proofs.StateLemmas.{script_parsed}
 use Rattle.rhai_script.proofs.global_level.read_stream.Goals as goal
 
 pub returns-clause-reads : goal.returns-clause-reads
@@ -84,3 +85,9 @@ returns-clause-orderly c =
     → IsOrderly c.args.engine.now.max_functions 0 (library_of es)) (search rules)
     (order_kept c.args.engine.now c.new-state.result c.args.input.now c.args.lib.now.entries c.args.constants
     (library_of state.lib.now.entries) new c.parse_global_level-script.ensures.orderly)
+
+pub returns-clause-entered : goal.returns-clause-entered
+returns-clause-entered c =
+    let call = c.parse_global_level-script in
+    entered_so (counts_of c.new-state.result.counts) (counts_of call.new.state.counts) _ c.new-state.ensures.counts
+    call.ensures.counts (search rules)

@@ -5,7 +5,7 @@ use Rattle.std.specs.declared.alloc.Global.{Global}
 use Rattle.std.specs.declared.rc.RcStr.{RcStr}
 use Rattle.rhai_grammar.specs.Cursors.{cursor_of, mode_by}
 use Rattle.std.proofs.Common.{IfOk}
-use Rattle.rhai_base.specs.Counts.{counts_of, with_entered}
+use Rattle.rhai_base.specs.Counts.{Counts, counts_of, with_entered, with_peak}
 use Rattle.rhai_base.specs.Frames.{FrameValue}
 use Rattle.rhai_base.specs.Libraries.{library_of}
 use Rattle.rhai_readers.specs.Frames.{context_of}
@@ -22,20 +22,25 @@ returns-clause-reads g c =
     let chosen = c.settings.new.arg2 in
     let framed = frame_is engine c.args.state.now c.new-frame.result _ _ _ _ _ c.new-frame.ensures c.known-known.ensures c.replace-stack.ensures.value
     c.replace-imports.ensures.value (c.deref.ensures.value ∙ ap (λ (v : Vec (RcStr Global) Global). v.items) c.replace-around.ensures.value) c.fn_begun.ensures in
-    let read = c.parse_script-read in (
+    let read = c.parse_script-read in
+    let last = c.raise_peak-2 in
+    let reached = counts_of read.new.counts in (
       chosen,
       search rules,
       λ fresh. (
         subst (λ (f : FrameValue). ReadsScript (context_of engine f chosen) f.live (library_of c.args.state.now.lib.now.entries)
             (library_of read.new.lib.entries) (cursor_of c.args.state.now.input.now) (cursor_of read.new.input) read.result read.new.stack
             (map rc_str_bytes read.new.imports.items)) framed (read.ensures.reads (ap mode_by fresh.mode)),
-        nests_left (starts_in engine c.args.state.now chosen) (live_in c.args.state.now) (library_of c.args.state.now.lib.now.entries) (cursor_of c.args.state.now.input.now) (counts_of c.args.state.now.counts) (counts_of read.new.counts) (counts_of c.raise_peak.new.self) read.result c.raise_peak.ensures
+        nests_left (starts_in engine c.args.state.now chosen) (live_in c.args.state.now)
+            (library_of c.args.state.now.lib.now.entries) (cursor_of c.args.state.now.input.now)
+            (counts_of c.raise_peak.new.self) reached (counts_of last.new.self) read.result last.ensures
             (subst (λ (f : FrameValue). IfOk read.result (λ script. NestsAsWritten (context_of engine f chosen) f.live
             (library_of c.args.state.now.lib.now.entries) (cursor_of c.args.state.now.input.now) (counts_of read.new.counts))) framed
             (read.ensures.deep (ap mode_by fresh.mode) (c.nest_enter.ensures ∙ ap with_entered fresh.counts))),
       ),
-      entry_stays engine chosen (counts_of c.args.state.now.counts) (counts_of c.nest_enter.new.self)
-          (counts_of read.new.counts) (counts_of c.raise_peak.new.self) c.nest_enter.ensures c.raise_peak.ensures read.ensures.stays,
+      entry_stays engine chosen (counts_of c.args.state.now.counts) (counts_of c.nest_enter.new.self) reached
+          (counts_of last.new.self) c.nest_enter.ensures
+          (last.ensures ∙ ap (λ (n : Counts). with_peak n reached.peak) c.raise_peak.ensures) read.ensures.stays,
     )
 
 pub returns-clause-orderly : goal.returns-clause-orderly
@@ -46,5 +51,7 @@ returns-clause-orderly g c =
 
 pub returns-clause-counts : goal.returns-clause-counts
 returns-clause-counts g c =
-    keeps_counts (counts_of c.args.state.now.counts) (counts_of c.raise_peak.new.self) (counts_of c.parse_script-read.new.counts).peak
-    c.raise_peak.ensures
+    let last = c.raise_peak-2 in
+    let reached = counts_of c.parse_script-read.new.counts in
+    keeps_counts (counts_of c.args.state.now.counts) (counts_of c.nest_enter.new.self) (counts_of last.new.self)
+    reached.peak c.nest_enter.ensures (last.ensures ∙ ap (λ (n : Counts). with_peak n reached.peak) c.raise_peak.ensures)
