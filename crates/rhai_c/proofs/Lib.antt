@@ -1,3 +1,4 @@
 -- Lemmas.
+pub mod Examples
 pub mod Holds
 pub mod Replies

@@ -17,6 +17,7 @@ use Rattle.rhai_grammar.specs.Causes.{is_for_memory}
 use Rattle.rhai_grammar.specs.declared.error.ParseError.{ParseError}
 use Rattle.rhai_json.specs.Trees.{script_json}
 use Rattle.rhai_script.specs.Scripts.{ReadsTextAsAst, ReadsTextAsExpression}
+use Rattle.rhai_c.specs.Json.{TellsNames, TellsRefusal, TellsTokens}
 use Rattle.rhai_c.specs.Statuses.{number_of}
 use Rattle.rhai_c.specs.declared.answer.RhaiAnswer.{RhaiAnswer}
 use Rattle.rhai_c.specs.declared.kept.Kept.{Kept}
@@ -57,10 +58,10 @@ tree_text script =
     print (script_json (statement_views script.statements.items) (map (λ f. function_view f.value)
     script.functions.items))
 
--- what is told of a script: of its tree the JSON of it; of its names any text
+-- what is told of a script: the JSON of its tree, or of the names that its functions need
 abbrev pub Tells : Told → AST → Text → Type 0
 Tells told.Tree script text = text ≡ tree_text script
-Tells told.Names script text = Unit {0}
+Tells told.Names script text = TellsNames (map (λ f. function_view f.value) script.functions.items) text
 
 -- the text is a script, and this is told of it
 pub record Accepts (k : Kind) (t : Told) (s : Settings) (text reply : Text) : Type 0 where
@@ -68,19 +69,20 @@ pub record Accepts (k : Kind) (t : Told) (s : Settings) (text reply : Text) : Ty
   pub reads : ReadsAs k s text (Ok script)
   pub tells : Tells t script reply
 
--- the text is no script, and not because memory ran out
-pub record Refuses (k : Kind) (s : Settings) (text : Text) : Type 0 where
+-- the text is no script, and not because memory ran out; this says why
+pub record Refuses (k : Kind) (s : Settings) (text reply : Text) : Type 0 where
   pub error : ParseError
   pub reads : ReadsAs k s text (Err error)
   pub for_itself : is_for_memory error ≡ false
+  pub tells : TellsRefusal s.limits text error reply
 
 -- What is told of a text. A text always has tokens. That memory ran out may be told of every text.
 abbrev pub IsReply : Question → Settings → Text → Reply → Type 0
 IsReply q s text reply.NoMemory = Unit {0}
 IsReply q s text (reply.NotUtf8 n) = (IsUtf8 text → ⊥) × (n ≡ utf8_valid_len text)
 IsReply (question.Script k t) s text (reply.Accepted v) = IsUtf8 text × Accepts k t s text v.items
-IsReply (question.Script k t) s text (reply.Refused v) = IsUtf8 text × Refuses k s text
-IsReply question.Tokens s text (reply.Accepted v) = IsUtf8 text
+IsReply (question.Script k t) s text (reply.Refused v) = IsUtf8 text × Refuses k s text v.items
+IsReply question.Tokens s text (reply.Accepted v) = IsUtf8 text × TellsTokens s.limits text v.items
 IsReply question.Tokens s text (reply.Refused v) = ⊥
 
 -- an answer without a text, and with this length

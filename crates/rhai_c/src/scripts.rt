@@ -3,6 +3,7 @@
 ghost use Rattle.std.specs.Prelude.{◌≡◌, IfErr, IfOk, IsUtf8, string_bytes};
 ghost use Rattle.rhai_grammar.specs.Causes.{MemoryIsNowhere, is_for_memory};
 ghost use Rattle.rhai_c.specs.Answers.{IsReply, ReadsAs, Tells, kind_of};
+ghost use Rattle.rhai_c.specs.Json.{TellsRefusal};
 ghost use Rattle.rhai_c.specs.declared.scripts.Question.TheVariants.{Script, Tokens};
 
 use crate::settings::Settings;
@@ -92,7 +93,9 @@ fn refusal(
     settings: &Settings,
     text: &str,
     error: ParseError,
-) -> Result<Vec<u8>, AllocError> {
+) -> Result<Vec<u8>, AllocError>
+    ensures { IfOk result (λ bytes. TellsRefusal settings.now.limits text.now error bytes.items) }
+{
     let tokens = tokenize(alloc, text, settings.limits)?;
     let source = Source {
         name: "",
@@ -109,6 +112,7 @@ fn refusal(
 }
 
 // What is told of a script, as a text.
+#[tactic(auto, using(crate::proofs::Replies::tells_names))]
 fn text_of(alloc: Global, script: &AST, told: Told) -> Result<String, AllocError>
     ensures { IfOk result (λ text. Tells told script.now (string_bytes text)) }
 {
@@ -136,7 +140,7 @@ fn is_for_memory(error: &ParseError) -> bool
     }
 }
 
-#[tactic(auto, using(crate::proofs::Replies::accepts))]
+#[tactic(auto, using(crate::proofs::Replies::accepts, crate::proofs::Replies::refuses))]
 fn about_script(
     alloc: Global,
     settings: &Settings,
