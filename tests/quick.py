@@ -29,7 +29,7 @@ import entries
 import table
 
 RUNS_OF_A_FILE = "rhai_case_tests"  # the crate with the test that makes the runs of a file
-TESTS = ("rhai_parse", "rhai_run", "rhai_tests", "rhai_base_tests")  # the other crates with tests
+TESTS = ("rhai_parse", "rhai_lists", "rhai_tests", "rhai_base_tests")  # the other crates with tests
 SECONDS = "300"  # for a test
 STATUS = re.compile(r"^case=(\S+) run=ended status=(\d+) ", re.MULTILINE)
 PRINTED = re.compile(rb"^== (\d+)\n", re.MULTILINE)

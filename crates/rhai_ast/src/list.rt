@@ -1,6 +1,6 @@
 //! Lists of tokens, as docs/FORMAT.md describes them: one token on a line.
 
-use rhai_formats::Escaped;
+use rhai_lists::Escaped;
 use rhai_report::in_file;
 use rhai_script::{Entry, LexError, Span, Token, Tokens};
 use std::alloc::{AllocError, Global};

@@ -1,5 +1,7 @@
 -- Doc comments: lines without their indent, and one more comment.
-use Rattle.std.proofs.Common.{◌≡◌, ℕ, zero, suc, ◌<◌, ◌≤◌, min, true, false, ◌==◌, cond, List, [], ◌∷◌, ◌++◌, length, get_or, take, drop, map, fold, All, IsUtf8, add-one, ◌-◌, ap, arith, eqb-true, refl, sym, ◌∙◌, eq-eqb, ne_eqb, ◌≢◌}
+use Rattle.std.proofs.Common.{◌≡◌, ℕ, zero, suc, ◌<◌, ◌≤◌, min, true, false, ◌==◌, cond, List, [], ◌∷◌, ◌++◌, length}
+use Rattle.std.proofs.Common.{get_or, take, drop, map, fold, All, IsUtf8, add-one, ◌-◌, ap, arith, eqb-true, refl}
+use Rattle.std.proofs.Common.{sym, ◌∙◌, eq-eqb, ne_eqb, ◌≢◌}
 use Rattle.std.proofs.lemmas.List.{append_assoc, take_all}
 use Rattle.std.proofs.lemmas.List.Elements.{All-cons, All-nil}
 use Rattle.std.proofs.lemmas.List.Sums.{prefix_len-le-length, prefix_len_passes}
@@ -9,7 +11,8 @@ use Rattle.std.specs.Str.{IsCharBoundary}
 use denote.Ref.{Bor}
 use Rattle.rhai_lower.specs.declared.position.Position.{Position}
 use Rattle.rhai_lower.specs.Texts.{Text}
-use Rattle.rhai_grammar.specs.Comments.{Comment, indent, kept_after, kept_comments, leading_spaces, has_line_feed, joined_lines, shifted, unindented, unless_empty, with_line}
+use Rattle.rhai_grammar.specs.Comments.{Comment, indent, kept_after, kept_comments, leading_spaces, has_line_feed}
+use Rattle.rhai_grammar.specs.Comments.{joined_lines, shifted, unindented, unless_empty, with_line}
 
 -- a line may be cut behind spaces at its front
 pub cut_behind_spaces : (line : List ℕ) (n : ℕ) → IsUtf8 line → n ≤ leading_spaces line → 0 < n → IsCharBoundary line n

@@ -1,12 +1,14 @@
 -- The slot that a definition uses again.
-use Rattle.std.proofs.Common.{◌≡◌, ◌∙◌, ℕ, ◌≤◌, ◌-◌, ◌==◌, Bool, true, false, not, List, [], ◌∷◌, Option, Some, None, length, map, sym, ap, arith, if◌then◌else◌}
+use Rattle.std.proofs.Common.{◌≡◌, ◌∙◌, ℕ, ◌≤◌, ◌-◌, ◌==◌, Bool, true, false, not, List, [], ◌∷◌, Option, Some, None}
+use Rattle.std.proofs.Common.{length, map, sym, ap, arith, if◌then◌else◌}
 use Rattle.std.proofs.Math.Dec.{eqb-suc-zero}
 use Rattle.std.specs.Rc.{rc_str_bytes}
 use Rattle.std.specs.declared.alloc.Global.{Global}
 use Rattle.std.specs.declared.rc.RcStr.{RcStr}
 use Rattle.rhai_lower.specs.Texts.{Text}
 use Rattle.rhai_lower.specs.Slots.{SlotValue, with_alias, with_constant, with_slot}
-use Rattle.rhai_grammar.specs.Definitions.{define, define_at, export_at, is_exported, is_in_block, is_reusable, reused, reused_at}
+use Rattle.rhai_grammar.specs.Definitions.{define, define_at, export_at, is_exported, is_in_block, is_reusable}
+use Rattle.rhai_grammar.specs.Definitions.{reused, reused_at}
 use Rattle.rhai_grammar.specs.Slots.{IsLatest, number}
 use Rattle.rhai_grammar.proofs.SlotLemmas.{latest_number}
 

@@ -1,5 +1,7 @@
 -- The slots of a frame: those of the frames around it, and then its own.
-use Rattle.std.proofs.Common.{◌≡◌, ◌∙◌, ◌+◌, ◌-◌, ◌<◌, ◌≤◌, ◌++◌, ℕ, Bool, true, false, not, nat_lt, List, [], ◌∷◌, Option, Some, None, MatchOption, Result, Ok, Err, IfOk, OnOk, length, option_map, slice_set, refl, sym, ap, arith, if◌then◌else◌, ◌&&◌}
+use Rattle.std.proofs.Common.{◌≡◌, ◌∙◌, ◌+◌, ◌-◌, ◌<◌, ◌≤◌, ◌++◌, ℕ, Bool, true, false, not, nat_lt, List, [], ◌∷◌}
+use Rattle.std.proofs.Common.{Option, Some, None, MatchOption, Result, Ok, Err, IfOk, OnOk, length, option_map}
+use Rattle.std.proofs.Common.{slice_set, refl, sym, ap, arith, if◌then◌else◌, ◌&&◌}
 use Rattle.std.proofs.lemmas.List.{append_assoc, get_or-append_right, length-append, set-append_right}
 use Rattle.std.specs.Int.NonZero.{non_zero_usize_get}
 use Rattle.std.specs.Option.{option_or}
@@ -7,7 +9,8 @@ use Rattle.std.specs.declared.num.NonZeroUsize.{NonZeroUsize}
 use Rattle.rhai_lower.specs.Texts.{Text}
 use Rattle.rhai_lower.specs.Slots.{SlotValue, fresh_slot, slot_at, with_alias, with_constant}
 use Rattle.rhai_grammar.specs.Contexts.{Live}
-use Rattle.rhai_grammar.specs.Definitions.{define, define_at, defined, export_at, exported, is_exported, is_in_block, is_reusable, reused, reused_at}
+use Rattle.rhai_grammar.specs.Definitions.{define, define_at, defined, export_at, exported, is_exported, is_in_block}
+use Rattle.rhai_grammar.specs.Definitions.{is_reusable, reused, reused_at}
 use Rattle.rhai_grammar.specs.Slots.{IsLatest, is_named, number, slot_from_latest}
 use Rattle.rhai_base.proofs.DefinitionLemmas.{reused_inside}
 use Rattle.rhai_grammar.proofs.SlotLemmas.{latest_number}

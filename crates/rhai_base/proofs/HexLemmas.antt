@@ -1,5 +1,7 @@
 -- `{:016x}` writes the last sixteen digits.
-use Rattle.std.proofs.Common.{◌≡◌, ℕ, suc, zero, ◌+◌, ◌-◌, ◌/◌, ◌%◌, ◌^◌, ◌<◌, ◌∙◌, ◌==◌, Bool, true, false, cond, List, [], ◌∷◌, ◌++◌, length, replicate, ap, sym, refl, arith, append_assoc, append-nil, eqb-true, eq-eqb, pow-suc}
+use Rattle.std.proofs.Common.{◌≡◌, ℕ, suc, zero, ◌+◌, ◌-◌, ◌/◌, ◌%◌, ◌^◌, ◌<◌, ◌∙◌, ◌==◌, Bool, true, false, cond}
+use Rattle.std.proofs.Common.{List, [], ◌∷◌, ◌++◌, length, replicate, ap, sym, refl, arith, append_assoc, append-nil}
+use Rattle.std.proofs.Common.{eqb-true, eq-eqb, pow-suc}
 use Rattle.std.specs.Fmt.{digits, digits_onto, padded_integral, format_spec, char_count}
 use Rattle.std.proofs.lemmas.List.{replicate_more}
 use Rattle.rhai_grammar.specs.Closures.{hex_digit, last_hex_digits}

@@ -1,5 +1,6 @@
 -- Slots of names, paths, and numbers of arguments.
-use Rattle.std.proofs.Common.{◌≡◌, ◌==◌, Bool, true, false, not, List, [], ◌∷◌, ◌++◌, None, Some, length, map, slice_get, ap, refl, ◌∙◌, arith, if◌then◌else◌}
+use Rattle.std.proofs.Common.{◌≡◌, ◌==◌, Bool, true, false, not, List, [], ◌∷◌, ◌++◌, None, Some, length, map}
+use Rattle.std.proofs.Common.{slice_get, ap, refl, ◌∙◌, arith, if◌then◌else◌}
 use Rattle.std.proofs.Math.Dec.{eqb-suc-zero}
 use Rattle.rhai_lower.specs.Texts.{Text}
 use Rattle.std.specs.Rc.{rc_str_bytes}

@@ -6,7 +6,8 @@ use Rattle.std.specs.declared.alloc.Global.{Global}
 use Rattle.std.specs.declared.rc.RcStr.{RcStr}
 use Rattle.rhai_lower.specs.declared.position.Position.{Position}
 use Rattle.rhai_lower.specs.Slots.{SlotValue}
-use Rattle.rhai_lower.specs.Nodes.{Node, block_value, braces, call, expression, no_statements, one_node, one_statement, share}
+use Rattle.rhai_lower.specs.Nodes.{Node, block_value, braces, call, expression, no_statements, one_node}
+use Rattle.rhai_lower.specs.Nodes.{one_statement, share}
 use Rattle.rhai_lower.specs.Positions.{nowhere}
 use Rattle.rhai_lower.specs.View.{nodes_of}
 use Rattle.rhai_grammar.specs.Closures.{captured_nodes, closure_value, curry, shared_names}

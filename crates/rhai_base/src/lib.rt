@@ -1,25 +1,40 @@
-//! The base of the readers: settings, state, frames, look-ups, and the library. The nodes of values and names are here
-//! too.
+//! The base of the readers: settings, state, frames, look-ups, and the library; the cursor, and leaves, which ask of
+//! tokens or take them without reading an expression. The nodes of values and names are here too.
 #![tactic(auto)]
 
 pub mod allowed;
+pub mod arms;
+pub mod blocks;
 pub mod captured;
 pub mod closure_name;
 pub mod closures;
 pub mod comments;
+pub mod constructs;
 pub mod counts;
+pub mod cursor;
+pub mod due;
 pub mod flags;
+pub mod fn_heads;
 pub mod fn_lib;
 pub mod frame;
+pub mod items;
+pub mod keys;
 pub mod known;
 pub mod library;
 pub mod library_index;
+pub mod links;
+pub mod lists;
 pub mod literals;
 pub mod lookup;
 pub mod modules;
+pub mod operators;
+pub mod refusals;
 pub mod settings;
 mod slots;
 pub mod state;
+pub mod statements;
+pub mod strings;
+pub mod tokens;
 pub mod words;
 
 pub use closure_name::make_anonymous_fn;

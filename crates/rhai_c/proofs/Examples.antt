@@ -23,8 +23,8 @@ use Rattle.rhai_tokenizer.specs.Readings.{Item, item_of, span}
 use Rattle.rhai_tokenizer.specs.Symbols.{keywords, reserved_words}
 use Rattle.rhai_tokenizer.specs.declared.limits.Limits.{Limits}
 use Rattle.rhai_tokenizer.specs.declared.tokens.Span.{Span}
-use Rattle.rhai_tree_names.specs.FnNames.{AreNamesOf}
-use Rattle.rhai_tree_names.specs.declared.names.FnNames.{FnNames}
+use Rattle.rhai_trees.specs.FnNames.{AreNamesOf}
+use Rattle.rhai_trees.specs.declared.names.FnNames.{FnNames}
 use Rattle.rhai_report.specs.Marks.{Marks, MarksPart, MarksToken, is_escape, span_in_file}
 use Rattle.rhai_report.specs.Reports.{first_at}
 use Rattle.rhai_report.specs.declared.mark.Mark.{Mark}

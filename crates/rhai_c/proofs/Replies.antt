@@ -10,8 +10,8 @@ use Rattle.rhai_grammar.specs.declared.error.ParseError.{ParseError}
 use Rattle.rhai_tokenizer.specs.Readings.{Reads}
 use Rattle.rhai_tokenizer.specs.declared.limits.Limits.{Limits}
 use Rattle.rhai_tokenizer.specs.declared.tokens.Tokens.{Tokens}
-use Rattle.rhai_tree_names.specs.FnNames.{AreNamesOf}
-use Rattle.rhai_tree_names.specs.declared.names.FnNames.{FnNames}
+use Rattle.rhai_trees.specs.FnNames.{AreNamesOf}
+use Rattle.rhai_trees.specs.declared.names.FnNames.{FnNames}
 use Rattle.rhai_report.specs.Reports as reports
 use Rattle.rhai_report.specs.Reports.{first_at}
 use Rattle.rhai_report.specs.declared.report.Outside.{Outside}

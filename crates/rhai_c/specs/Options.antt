@@ -4,7 +4,7 @@ use Rattle.std.specs.Prelude.{if◌then◌else◌, nat_lt}
 use Rattle.std.specs.Prelude.{refl, true}
 use Rattle.rhai_lower.specs.Slots.{with_slot}
 use Rattle.rhai_lower.specs.Texts.{Text}
-use Rattle.rhai_readers.specs.Engines.{fresh_engine}
+use Rattle.rhai_parser_shared.specs.Engines.{fresh_engine}
 use Rattle.rhai_c.specs.declared.options.HostOption.{HostOption}
 use Rattle.rhai_c.specs.declared.options.HostOption.TheVariants.{ArraySize, DocComments, FunctionDepth, Functions}
 use Rattle.rhai_c.specs.declared.options.HostOption.TheVariants.{Language, MapSize, ScriptDepth, StringSize}

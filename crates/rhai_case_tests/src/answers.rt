@@ -1,6 +1,6 @@
 //! Compares answers with what the programs print of them.
 
-use rhai_formats::refusal;
+use rhai_lists::refusal;
 use rhai_parser::ParseResult;
 use std::alloc::{AllocError, Global};
 use std::process::Abort;

@@ -2,7 +2,7 @@
 //! give one on standard input, from the table of cases, and compare what is printed. tests/quick.py gives the whole
 //! table as a file. Without an input the tests do nothing.
 
-use rhai_formats::{
+use rhai_lists::{
     Escaped, ListError, Refused, TokenList, answered, decimal, read_lines, read_list,
 };
 use rhai_names::{FnNames, names_of_script};

@@ -3,7 +3,7 @@
 
 use crate::answers::check;
 use crate::lists::{Kind, read_words};
-use rhai_formats::{answered, refusal};
+use rhai_lists::{answered, refusal};
 use rhai_parser::{AST, Engine, FnLib, LangOptions, ParseResult, Scope};
 use rhai_script::{
     GlobalLevel, Limits, Refused, compile, compile_expression, compile_global_level,

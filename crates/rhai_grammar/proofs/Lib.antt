@@ -16,3 +16,4 @@ pub mod FairDemands
 pub mod SwitchLemmas
 pub mod ShapeSteps
 pub mod NumberSteps
+pub mod MentionLemmas

@@ -42,6 +42,7 @@ pub mod RowStreams
 pub mod EntryContexts
 pub mod SlotLaws
 pub mod TreeNumbers
+pub mod Mentions
 pub mod NumberedLibraries
 pub mod LibraryLaws
 pub mod Imports

@@ -4,8 +4,8 @@ use Rattle.std.specs.Fmt.{digits}
 use Rattle.std.specs.Rc.{rc_str_bytes}
 use Rattle.json.specs.Token.{Token, begin_array, begin_object, end_array, end_object, key, number, string}
 use Rattle.rhai_lower.specs.Texts.{Text}
-use Rattle.rhai_tree_names.specs.FnNames.{counted, texts}
-use Rattle.rhai_tree_names.specs.declared.names.FnNames.{FnNames}
+use Rattle.rhai_trees.specs.FnNames.{counted, texts}
+use Rattle.rhai_trees.specs.declared.names.FnNames.{FnNames}
 use Rattle.rhai_json.specs.Fields.{◌▷◌, items, list_field, number_field, optional_text_field, put, text_field}
 use Rattle.rhai_json.specs.Fields.{texts_field}
 

@@ -3,13 +3,13 @@
 ghost use Rattle.std.specs.Prelude.{◌≡◌, IfOk, OnOk, codes, string_bytes};
 ghost use Rattle.std.specs.Rc.{rc_str_bytes};
 ghost use Rattle.json.specs.Print.{print};
-ghost use Rattle.rhai_tree_names.specs.FnNames.{counted};
+ghost use Rattle.rhai_trees.specs.FnNames.{counted};
 ghost use Rattle.rhai_json.specs.Fields.{list_field};
 ghost use Rattle.rhai_json.specs.NameLists.{call_value, names_list, names_value};
 
 use crate::fields::{put_number, put_optional_text, put_text, put_texts};
 use crate::out::Out;
-use rhai_tree_names::FnNames;
+use rhai_trees::FnNames;
 use std::alloc::{AllocError, Global};
 use std::rc::RcStr;
 

@@ -13,22 +13,22 @@ use Rattle.rhai_grammar.specs.Imports.{is_among}
 use Rattle.rhai_grammar.specs.Causes.{is_for_memory}
 use Rattle.rhai_grammar.specs.Libraries.{Ended, Library}
 use Rattle.rhai_grammar.specs.Promises.{IsWrittenTo}
-use Rattle.rhai_reading.specs.Reading.{Script}
+use Rattle.rhai_grammar_reading.specs.Reading.{Script}
 use Rattle.rhai_grammar.specs.Promises as promised
 use Rattle.rhai_grammar.specs.Promises.{Written}
 use Rattle.rhai_grammar.specs.Rules.{production}
-use Rattle.rhai_productions.specs.UseLaws.{AllReadTheirUses, ReadsItsUses}
-use Rattle.rhai_productions.specs.WrittenFunctions as functions
-use Rattle.rhai_productions.specs.WrittenFunctions.{WrittenFunction}
-use Rattle.rhai_productions.proofs.Uses.{functions_read_their_uses}
+use Rattle.rhai_grammar_laws.specs.UseLaws.{AllReadTheirUses, ReadsItsUses}
+use Rattle.rhai_grammar_laws.specs.WrittenFunctions as functions
+use Rattle.rhai_grammar_laws.specs.WrittenFunctions.{WrittenFunction}
+use Rattle.rhai_grammar_laws.proofs.Uses.{functions_read_their_uses}
 use Rattle.rhai_grammar.specs.declared.error.ParseError.{ParseError}
 use Rattle.rhai_lower.specs.Slots.{SlotValue}
 use Rattle.rhai_lower.specs.Nodes.{Function}
 use Rattle.rhai_lower.specs.Texts.{Text}
 use Rattle.rhai_parser.specs.Scripts.{ReadsScript, functions_in}
-use Rattle.rhai_tree_names.specs.FnNames.{AreNamesOf, IsNamesOf, IsNamesOfWritten}
-use Rattle.rhai_names.specs.Scripts.{Answer, AreNamesAfter, ReadsNames}
-use Rattle.rhai_tree_names.specs.declared.names.FnNames.{FnNames}
+use Rattle.rhai_trees.specs.FnNames.{AreNamesOf, IsNamesOf}
+use Rattle.rhai_names.specs.Scripts.{Answer, AreNamesAfter, IsNamesOfWritten, ReadsNames}
+use Rattle.rhai_trees.specs.declared.names.FnNames.{FnNames}
 
 written : (w : WrittenFunction) (x : FnNames) → ReadsItsUses w → IsNamesOf w.ended.function x → IsNamesOfWritten w x
 written w x u h = record {

@@ -12,18 +12,23 @@ use Rattle.rhai_grammar.specs.Cursors.{Cursor}
 use Rattle.rhai_grammar.specs.Libraries.{Library}
 use Rattle.rhai_grammar.specs.Promises.{Returns}
 use Rattle.rhai_grammar.specs.declared.error.ParseError.{ParseError}
-use Rattle.rhai_reading.specs.Reading.{Script}
+use Rattle.rhai_grammar_reading.specs.Reading.{Script}
 use Rattle.rhai_grammar.specs.Promises.{ReadsWhole}
 use Rattle.rhai_grammar.specs.Rules.{production}
-use Rattle.rhai_productions.specs.WrittenFunctions as functions
-use Rattle.rhai_productions.specs.WrittenFunctions.{WrittenFunction}
+use Rattle.rhai_grammar_laws.specs.WrittenFunctions as functions
+use Rattle.rhai_grammar_laws.specs.WrittenFunctions.{WrittenFunction, is_used}
 use Rattle.rhai_parser.specs.Scripts.{ReadsScript, function_views, functions_in}
-use Rattle.rhai_tree_names.specs.FnNames.{AreNamesOf, IsNamesOfWritten}
-use Rattle.rhai_tree_names.specs.declared.names.FnNames.{FnNames}
+use Rattle.rhai_trees.specs.FnNames.{AreNamesOf, IsNames}
+use Rattle.rhai_trees.specs.declared.names.FnNames.{FnNames}
 
 -- the statements and functions of a script, as the parser answers
 abbrev pub Answer : Type 0
 Answer = Vec Stmt Global × Vec (Rc ScriptFuncDef Global) Global
+
+-- The names of a function as it is written: those of its uses that no live slot has there. The names that a closure
+-- captures are parameters of it.
+abbrev pub IsNamesOfWritten : WrittenFunction → FnNames → Type 0
+IsNamesOfWritten w x = IsNames w.ended.function (λ name. is_used name w) x
 
 -- The names of the functions that were there before a script, by their trees, and then those of each function and
 -- closure that is written in it, in the order in which these end.

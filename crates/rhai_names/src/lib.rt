@@ -5,5 +5,5 @@
 
 mod script;
 
-pub use rhai_tree_names::{FnNames, names_of};
+pub use rhai_trees::{FnNames, names_of};
 pub use script::names_of_script;

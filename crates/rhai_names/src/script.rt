@@ -9,12 +9,12 @@ ghost use Rattle.rhai_grammar.specs.Causes.{MemoryIsNowhere};
 ghost use Rattle.rhai_grammar.specs.Cursors.{cursor_of};
 ghost use Rattle.rhai_grammar.specs.Promises.{HasRead, UnlessMemory};
 ghost use Rattle.rhai_names.specs.Scripts.{ReadsNames};
-ghost use Rattle.rhai_readers.specs.Engines.{script_settings};
+ghost use Rattle.rhai_parser_shared.specs.Engines.{script_settings};
 ghost use Rattle.rhai_parser.specs.Nesting.{KeepsCounts, NestsAsWritten, StaysWithin};
 ghost use Rattle.rhai_parser.specs.Starts.{KeepsOrder, KeepsState, live_in, starts_in};
 
 use rhai_parser::{Engine, ParseResult, ParseState};
-use rhai_tree_names::{FnNames, names_of};
+use rhai_trees::{FnNames, names_of};
 use std::alloc::Global;
 
 /// Reads a script up to the end mark of the stream, under the engine's settings, as `Engine::parse_global_level` does,

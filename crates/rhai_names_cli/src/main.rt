@@ -4,7 +4,7 @@
 
 mod run;
 
-use rhai_run::{command_line, print_answer};
+use rhai_lists::{command_line, print_answer};
 use std::io;
 use std::process::ExitCode;
 

@@ -1,7 +1,7 @@
 //! The program, over any reader and writer.
 
+use rhai_lists::{Failure, names_lines, print_answer, read_tree};
 use rhai_names::names_of;
-use rhai_run::{Failure, names_lines, print_answer, read_tree};
 use std::alloc::Global;
 use std::io::{Read, Write};
 

@@ -1,7 +1,6 @@
 //! The program, over any reader and writer.
 
-use rhai_formats::accepted;
-use rhai_run::{Failure, print_answer, read_tree};
+use rhai_lists::{Failure, accepted, print_answer, read_tree};
 use std::alloc::Global;
 use std::io::{Read, Write};
 

@@ -13,8 +13,8 @@ use Rattle.rhai_base.specs.Counts.{Counts, counts_of}
 use Rattle.rhai_base.specs.Frames.{known_variables}
 use Rattle.rhai_base.specs.States.{IsFresh}
 use Rattle.rhai_base.specs.declared.settings.ParseSettings.{ParseSettings}
-use Rattle.rhai_readers.specs.Frames.{context_of}
-use Rattle.rhai_readers.specs.Engines.{expr_settings, fresh_engine, script_settings}
+use Rattle.rhai_parser_shared.specs.Frames.{context_of}
+use Rattle.rhai_parser_shared.specs.Engines.{expr_settings, fresh_engine, script_settings}
 use Rattle.rhai_parser.specs.EntryLaws.{EntersAsInRows}
 use Rattle.rhai_parser.specs.Starts.{StateValue, live_in, starts_in}
 

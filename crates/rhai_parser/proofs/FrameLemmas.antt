@@ -8,7 +8,7 @@ use Rattle.rhai_lower.specs.Slots.{SlotValue}
 use Rattle.rhai_grammar.specs.Contexts.{Known}
 use Rattle.rhai_base.specs.Counts.{counts_of}
 use Rattle.rhai_base.specs.Frames.{FrameValue, known_variables}
-use Rattle.rhai_readers.specs.Engines.{EngineValue}
+use Rattle.rhai_parser_shared.specs.Engines.{EngineValue}
 use Rattle.rhai_parser.specs.Starts.{StateValue, frame_in, known_in}
 
 abbrev Names : Type 0

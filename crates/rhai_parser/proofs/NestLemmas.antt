@@ -4,28 +4,28 @@ use Rattle.std.proofs.Math.Nat.{le-max_left, le-max_right, max-le, min-le_left}
 use Rattle.rhai_lower.specs.Nodes as node
 use Rattle.rhai_grammar.specs.Contexts.{Context, Live}
 use Rattle.rhai_grammar.specs.Settings.{one_more}
-use Rattle.rhai_reading.specs.Reading.{Script}
-use Rattle.rhai_reading.specs.Running.{Done, Progress, result_of}
+use Rattle.rhai_grammar_reading.specs.Reading.{Script}
+use Rattle.rhai_grammar_reading.specs.Running.{Done, Progress, result_of}
 use Rattle.rhai_grammar.specs.declared.error.ParseError.{ParseError}
 use Rattle.rhai_base.specs.Counts.{Counts, with_entered, with_peak}
 use Rattle.rhai_base.specs.declared.settings.ParseSettings.{ParseSettings}
-use Rattle.rhai_readers.specs.Engines.{EngineValue}
+use Rattle.rhai_parser_shared.specs.Engines.{EngineValue}
 use Rattle.std.specs.Prelude.{◌⊎◌}
 use Rattle.rhai_grammar.specs.Cursors.{Cursor}
 use Rattle.rhai_grammar.specs.Libraries.{Library}
 use Rattle.rhai_grammar.specs.NumberedLibraries.{IsOrderly}
 use Rattle.rhai_parser.specs.Nesting.{KeepsCounts, NestsAsWritten, StaysWithin}
-use Rattle.rhai_reading.specs.Nesting.{Nesting, entered}
-use Rattle.rhai_reading.proofs.Entries.{IsNew}
+use Rattle.rhai_grammar_reading.specs.Nesting.{Nesting, entered}
+use Rattle.rhai_grammar_reading.proofs.Entries.{IsNew}
 use Rattle.rhai_grammar.specs.Forms.{depth}
 use Rattle.rhai_grammar.specs.Rules.{production}
-use Rattle.rhai_productions.proofs.Depth.{nests}
+use Rattle.rhai_grammar_laws.proofs.Depth.{nests}
 use Rattle.std.proofs.Math.Nat.{le_refl}
 use Rattle.rhai_base.specs.Counts.{counts_of}
 use Rattle.rhai_base.specs.Frames.{FrameValue}
-use Rattle.rhai_readers.specs.Heights.{Holds, IsWithin, Stays, function_height}
-use Rattle.rhai_readers.specs.declared.shared.Shared.{Shared}
-use Rattle.rhai_readers.proofs.Heights.{function_room_most, gap_most}
+use Rattle.rhai_parser_shared.specs.Heights.{Holds, IsWithin, Stays, function_height}
+use Rattle.rhai_parser_shared.specs.declared.shared.Shared.{Shared}
+use Rattle.rhai_parser_shared.proofs.Heights.{function_room_most, gap_most}
 use Rattle.std.proofs.Common.{inl, inr}
 
 -- what the code's reader of a script leaves

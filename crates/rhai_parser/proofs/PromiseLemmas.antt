@@ -1,6 +1,7 @@
 -- From what the reading program gives to what is promised.
 use Rattle.std.proofs.lemmas.List.{append-nil}
-use Rattle.std.proofs.Common.{inl, ◌≡◌, Bool, true, false, List, [], ◌∷◌, refl, sym, ap, ◌∙◌, subst, Result, Ok, Err, IfErr, IfOk}
+use Rattle.std.proofs.Common.{inl, ◌≡◌, Bool, true, false, List, [], ◌∷◌, refl, sym, ap, ◌∙◌, subst, Result, Ok, Err}
+use Rattle.std.proofs.Common.{IfErr, IfOk}
 use Rattle.std.specs.Prelude.{Vec, map}
 use Rattle.std.specs.declared.alloc.Global.{Global}
 use Rattle.std.specs.declared.rc.Rc.{Rc}
@@ -19,15 +20,16 @@ use Rattle.rhai_grammar.specs.Libraries.{Library}
 use Rattle.rhai_grammar.specs.Promises.{HasRead, ReadsWhole, Returns, UnlessMemory, Written}
 use Rattle.rhai_grammar.specs.declared.key.FnKey.{FnKey}
 use Rattle.rhai_base.specs.Libraries.{Begins, Grows, library_of}
-use Rattle.rhai_parser.specs.Scripts.{Accepts, Constants, IsMadeOf, Makes, IsScript, IsScriptOf, ReadsAst, ReadsExpression, ReadsScript, function_views, functions_in}
+use Rattle.rhai_parser.specs.Scripts.{Accepts, Constants, IsMadeOf, Makes, IsScript, IsScriptOf, ReadsAst}
+use Rattle.rhai_parser.specs.Scripts.{ReadsExpression, ReadsScript, function_views, functions_in}
 use Rattle.rhai_lower.specs.declared.optimizer.OptimizationLevel.{OptimizationLevel}
 use Rattle.rhai_grammar.specs.declared.error.ParseError.{ParseError}
-use Rattle.rhai_leaves.proofs.ErrorLemmas.{memory_cause}
-use Rattle.rhai_reading.specs.Reading.{Goal, Script, Val, Whole}
-use Rattle.rhai_reading.specs.Running.{Done, Fails, Progress, result_of}
-use Rattle.rhai_reading.proofs.Entries as M
-use Rattle.rhai_reading.proofs.Entries.{Entry, IsNew}
-use Rattle.rhai_productions.proofs.Main.{expression_entry, reads_done, reads_fails, script_entry}
+use Rattle.rhai_base.proofs.ErrorLemmas.{memory_cause}
+use Rattle.rhai_grammar_reading.specs.Reading.{Goal, Script, Val, Whole}
+use Rattle.rhai_grammar_reading.specs.Running.{Done, Fails, Progress, result_of}
+use Rattle.rhai_grammar_reading.proofs.Entries as M
+use Rattle.rhai_grammar_reading.proofs.Entries.{Entry, IsNew}
+use Rattle.rhai_grammar_laws.proofs.Main.{expression_entry, reads_done, reads_fails, script_entry}
 
 -- ---- functions
 

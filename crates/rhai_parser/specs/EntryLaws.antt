@@ -5,7 +5,7 @@ use Rattle.rhai_grammar.specs.Contexts.{nothing_live}
 use Rattle.rhai_grammar.specs.EntryContexts.{entry_expression, entry_script}
 use Rattle.rhai_base.specs.Frames.{known_variables}
 use Rattle.rhai_base.specs.States.{IsFresh}
-use Rattle.rhai_readers.specs.Engines.{expr_settings, fresh_engine, script_settings}
+use Rattle.rhai_parser_shared.specs.Engines.{expr_settings, fresh_engine, script_settings}
 use Rattle.rhai_parser.specs.Starts.{StateValue, live_in, starts_in}
 
 -- In a fresh state with no variables from outside, a new engine reads an expression and a script in the contexts of the

@@ -5,13 +5,13 @@ use Rattle.rhai_grammar.specs.Cursors.{Cursor}
 use Rattle.rhai_grammar.specs.Libraries.{Library}
 use Rattle.rhai_grammar.specs.Promises.{IsWritten}
 use Rattle.rhai_grammar.specs.Settings.{one_more}
-use Rattle.rhai_reading.specs.Reading.{Script}
+use Rattle.rhai_grammar_reading.specs.Reading.{Script}
 use Rattle.rhai_grammar.specs.Forms.{depth}
 use Rattle.rhai_grammar.specs.Promises.{Written, written}
 use Rattle.rhai_grammar.specs.Rules.{production}
 use Rattle.rhai_base.specs.Counts.{Counts}
 use Rattle.rhai_base.specs.declared.settings.ParseSettings.{ParseSettings}
-use Rattle.rhai_readers.specs.Engines.{EngineValue}
+use Rattle.rhai_parser_shared.specs.Engines.{EngineValue}
 
 -- Where both depth limits are positive, never were more parsing functions active, beside those that were, than eight
 -- for each level of a script and of a function, and for these more.

@@ -15,7 +15,7 @@ use Rattle.rhai_grammar.specs.Contexts.{Context, Live}
 use Rattle.rhai_grammar.specs.Libraries.{Library}
 use Rattle.rhai_grammar.specs.Promises.{Returns}
 use Rattle.rhai_grammar.specs.declared.error.ParseError.{ParseError}
-use Rattle.rhai_reading.specs.Reading.{Script, Whole}
+use Rattle.rhai_grammar_reading.specs.Reading.{Script, Whole}
 use Rattle.rhai_grammar.specs.Promises.{ReadsWhole}
 pub use Rattle.rhai_lower.specs.Optimizer.{Constants, Makes}
 use Rattle.rhai_lower.specs.declared.optimizer.OptimizationLevel.{OptimizationLevel}

@@ -12,8 +12,8 @@ use Rattle.rhai_base.specs.Counts.{Counts, counts_of}
 use Rattle.rhai_base.specs.Frames.{FrameValue, known_variables}
 use Rattle.rhai_base.specs.declared.settings.ParseSettings.{ParseSettings}
 use Rattle.rhai_base.specs.declared.state.ParseState.{ParseState}
-use Rattle.rhai_readers.specs.Frames.{context_of}
-use Rattle.rhai_readers.specs.Engines.{EngineValue}
+use Rattle.rhai_parser_shared.specs.Frames.{context_of}
+use Rattle.rhai_parser_shared.specs.Engines.{EngineValue}
 
 abbrev pub StateValue : Type 0
 StateValue = ParseState (List SlotValue) (Vec (RcStr Global × Position) Global) (Vec (RcStr Global) Global)

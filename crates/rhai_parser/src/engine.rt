@@ -5,11 +5,11 @@ ghost use Rattle.rhai_base.specs.Frames.{known_variables};
 ghost use Rattle.std.specs.Rc.{rc_str_bytes};
 ghost use Rattle.rhai_grammar.specs.Flags.{has, looping, shadowing};
 ghost use Rattle.rhai_grammar.specs.Imports.{is_among};
-ghost use Rattle.rhai_readers.specs.Engines.{fresh_engine, with_bits, expr_settings};
+ghost use Rattle.rhai_parser_shared.specs.Engines.{fresh_engine, with_bits, expr_settings};
 
 use rhai_base::{Known, LangOptions, ParseSettingFlags, ParseSettings};
 use rhai_lower::{NamedList, Position, Scope};
-use rhai_readers::Config;
+use rhai_parser_shared::Config;
 use std::alloc::{AllocError, Global};
 use std::marker::Model;
 use std::rc::RcStr;
@@ -22,7 +22,7 @@ pub struct Engine {
 }
 
 impl Model for Engine {
-    ghost use Rattle.rhai_readers.specs.Engines.{EngineValue};
+    ghost use Rattle.rhai_parser_shared.specs.Engines.{EngineValue};
 
     ghost Value = { EngineValue };
 

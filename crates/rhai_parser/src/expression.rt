@@ -9,17 +9,17 @@ ghost use Rattle.rhai_grammar.specs.Cursors.{cursor_of};
 ghost use Rattle.rhai_grammar.specs.Delivered.{code};
 ghost use Rattle.rhai_grammar.specs.Promises.{HasRead, UnlessMemory};
 ghost use Rattle.rhai_grammar.specs.Uses.{Use};
-ghost use Rattle.rhai_reading.specs.Reading.{Whole};
-ghost use Rattle.rhai_reading.specs.Running.{Gives, result_of};
+ghost use Rattle.rhai_grammar_reading.specs.Reading.{Whole};
+ghost use Rattle.rhai_grammar_reading.specs.Running.{Gives, result_of};
 ghost use Rattle.rhai_parser.specs.Scripts.{Accepts, ReadsExpression};
 ghost use Rattle.rhai_base.specs.Libraries.{Begins, Grows, library_of};
 ghost use Rattle.rhai_base.specs.States.{IsFresh};
 ghost use Rattle.rhai_base.specs.Counts.{counts_of};
-ghost use Rattle.rhai_readers.specs.Readers.{nesting_of};
-ghost use Rattle.rhai_readers.specs.Heights.{Holds};
-ghost use Rattle.rhai_readers.specs.Frames.{context_of, live_of};
+ghost use Rattle.rhai_parser_shared.specs.Readers.{nesting_of};
+ghost use Rattle.rhai_parser_shared.specs.Heights.{Holds};
+ghost use Rattle.rhai_parser_shared.specs.Frames.{context_of, live_of};
 ghost use Rattle.rhai_parser.specs.Starts.{KeepsOrder, live_in, starts_in};
-ghost use Rattle.rhai_readers.specs.Engines.{expr_settings};
+ghost use Rattle.rhai_parser_shared.specs.Engines.{expr_settings};
 
 use crate::engine::Engine;
 use crate::lending::parse_whole_expr;
@@ -30,7 +30,7 @@ use rhai_lower::{
     AST, Expr, NamedList, OptimizationLevel, Optimizer, Scope, Stmt, StringsInterner, TokenStream,
     Unoptimized,
 };
-use rhai_readers::Shared;
+use rhai_parser_shared::Shared;
 
 impl Engine {
     // The script of one expression and of all functions of a library, as an optimizer makes it.

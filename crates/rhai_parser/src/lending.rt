@@ -5,23 +5,23 @@ ghost use Rattle.rhai_lower.specs.Nodes.{no_statements};
 ghost use Rattle.rhai_lower.specs.View.{statement_view, view};
 ghost use Rattle.rhai_base.specs.Frames.{SameSurroundings};
 ghost use Rattle.rhai_grammar.specs.Beginnings.{beginning};
-ghost use Rattle.rhai_readers.specs.PlainPrimaries.{is_plain};
-ghost use Rattle.rhai_reading.specs.Running.{need, next_item};
-ghost use Rattle.rhai_readers.specs.Readers.{NestsAs, ReadsAs, construct, expression, inside};
-ghost use Rattle.rhai_readers.specs.Readers.{primary, state_of, statement, statements, statements_of, whole, with_live};
-ghost use Rattle.rhai_readers.specs.Statements.{NestsStatement};
-ghost use Rattle.rhai_readers.specs.Heights.{function_height};
+ghost use Rattle.rhai_parser_shared.specs.PlainPrimaries.{is_plain};
+ghost use Rattle.rhai_grammar_reading.specs.Running.{need, next_item};
+ghost use Rattle.rhai_parser_shared.specs.Readers.{NestsAs, ReadsAs, construct, expression, inside};
+ghost use Rattle.rhai_parser_shared.specs.Readers.{primary, state_of, statement, statements, statements_of, whole};
+ghost use Rattle.rhai_parser_shared.specs.Readers.{with_live};
+ghost use Rattle.rhai_parser_shared.specs.Statements.{NestsStatement};
+ghost use Rattle.rhai_parser_shared.specs.Heights.{function_height};
 ghost use Rattle.rhai_trees.specs.Chains.{chain_view};
 
+use rhai_base::due::end_due;
 use rhai_base::{Frame, ParseSettings};
-use rhai_constructs as constructs;
-use rhai_expressions as expressions;
 use rhai_grammar::{Closing, Construct, ParseResult};
-use rhai_leaves::due::end_due;
 use rhai_lower::{Expr, Stmt};
-use rhai_primaries as primaries;
-use rhai_readers::{Config, LentReaders, Shared, nested};
-use rhai_statements as statements;
+use rhai_parser_expressions as expressions;
+use rhai_parser_operands as primaries;
+use rhai_parser_shared::{Config, LentReaders, Shared, nested};
+use rhai_parser_statements as statements;
 use rhai_trees::Chain;
 
 // Readers, each a function that is lent.
@@ -152,7 +152,7 @@ where
 
 /// Reads an expression, as a chain that may go on. The level is raised at its first token.
 #[inline(always)]
-#[tactic(auto, using(rhai_reading::proofs::Steps::nested_so))]
+#[tactic(auto, using(rhai_grammar_reading::proofs::Steps::nested_so))]
 #[cycle(parser)]
 fn parse_chain(
     engine: &Config,
@@ -168,7 +168,7 @@ fn parse_chain(
 }
 
 /// Reads a statement. The level is raised at its first token.
-#[tactic(auto, using(rhai_reading::proofs::Steps::nested_so))]
+#[tactic(auto, using(rhai_grammar_reading::proofs::Steps::nested_so))]
 #[cycle(parser)]
 fn parse_stmt(
     engine: &Config,
@@ -184,7 +184,7 @@ fn parse_stmt(
 }
 
 /// Reads a construct of this kind after its first token, where the settings stand.
-#[tactic(auto, using(rhai_reading::proofs::Steps::nested_so))]
+#[tactic(auto, using(rhai_grammar_reading::proofs::Steps::nested_so))]
 #[cycle(parser)]
 fn parse_construct(
     engine: &Config,
@@ -202,7 +202,7 @@ fn parse_construct(
             reader.parse_block_statement(shared, frame, settings)
         }
         _ => {
-            let reader = constructs::Reader { engine, readers };
+            let reader = statements::Reader { engine, readers };
             nested!(
                 shared,
                 reader.parse_construct(shared, frame, settings, kind)
@@ -212,7 +212,7 @@ fn parse_construct(
 }
 
 /// Reads the statements of a block up to its `}`, which stays. Its definitions end with it.
-#[tactic(auto, using(rhai_reading::proofs::Steps::nested_so))]
+#[tactic(auto, using(rhai_grammar_reading::proofs::Steps::nested_so))]
 #[cycle(parser)]
 fn parse_block_inside(
     engine: &Config,
@@ -228,7 +228,7 @@ fn parse_block_inside(
 }
 
 /// Reads an operand that is not one token, without its sign and without what calls it: a chain where it is a group.
-#[tactic(auto, using(rhai_reading::proofs::Steps::nested_so))]
+#[tactic(auto, using(rhai_grammar_reading::proofs::Steps::nested_so))]
 #[cycle(parser)]
 fn parse_compound(
     engine: &Config,
@@ -245,7 +245,7 @@ fn parse_compound(
 }
 
 /// Reads an expression that the end mark follows.
-#[tactic(auto, using(rhai_reading::proofs::Steps::step_whole, rhai_readers::proofs::Readers::calls_of_readers))]
+#[tactic(auto, using(rhai_grammar_reading::proofs::Steps::step_whole, rhai_parser_shared::proofs::Readers::calls_of_readers))]
 pub(crate) fn parse_whole_expr(
     engine: &Config,
     shared: &mut Shared<'_>,

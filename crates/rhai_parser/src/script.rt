@@ -11,17 +11,17 @@ ghost use Rattle.rhai_grammar.specs.Delivered.{code};
 ghost use Rattle.rhai_grammar.specs.Promises.{HasRead, UnlessMemory};
 ghost use Rattle.rhai_grammar.specs.Uses.{Use};
 ghost use Rattle.rhai_parser.specs.Scripts.{ReadsAst, ReadsScript, function_views, functions_in};
-ghost use Rattle.rhai_reading.specs.Reading.{Script};
-ghost use Rattle.rhai_reading.specs.Running.{Gives, result_of};
+ghost use Rattle.rhai_grammar_reading.specs.Reading.{Script};
+ghost use Rattle.rhai_grammar_reading.specs.Running.{Gives, result_of};
 ghost use Rattle.rhai_base.specs.Libraries.{Begins, Grows, library_of};
 ghost use Rattle.rhai_base.specs.Counts.{counts_of, none_yet, with_entered};
 ghost use Rattle.rhai_base.specs.States.{IsFresh};
 ghost use Rattle.rhai_lower.specs.Optimizer.{unoptimized};
 ghost use Rattle.rhai_parser.specs.Nesting.{KeepsCounts, NestsAsWritten, StaysWithin};
-ghost use Rattle.rhai_readers.specs.Engines.{script_settings};
-ghost use Rattle.rhai_readers.specs.Frames.{context_of};
-ghost use Rattle.rhai_readers.specs.Readers.{nesting_of};
-ghost use Rattle.rhai_readers.specs.Heights.{Holds};
+ghost use Rattle.rhai_parser_shared.specs.Engines.{script_settings};
+ghost use Rattle.rhai_parser_shared.specs.Frames.{context_of};
+ghost use Rattle.rhai_parser_shared.specs.Readers.{nesting_of};
+ghost use Rattle.rhai_parser_shared.specs.Heights.{Holds};
 ghost use Rattle.rhai_parser.specs.Starts.{KeepsOrder, KeepsState, live_in, starts_in};
 
 use crate::engine::Engine;
@@ -35,7 +35,7 @@ use rhai_lower::{
     AST, NamedList, OptimizationLevel, Optimizer, Position, Scope, ScriptFuncDef, Stmt,
     StmtBlockContainer, StringsInterner, TokenStream, Unoptimized,
 };
-use rhai_readers::Shared;
+use rhai_parser_shared::Shared;
 use std::mem;
 use std::rc::{Rc, RcStr};
 

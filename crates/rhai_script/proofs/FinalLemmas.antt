@@ -8,7 +8,7 @@ use Rattle.rhai_grammar.specs.Delivered.{Mode, Taken, ask, code, is_end, later, 
 use Rattle.rhai_grammar.specs.Libraries.{Library}
 use Rattle.rhai_grammar.specs.Promises.{NoneBegins, Saw}
 use Rattle.rhai_grammar.specs.Seen.{Gives, leads}
-use Rattle.rhai_reading.specs.Reading.{Goal}
+use Rattle.rhai_grammar_reading.specs.Reading.{Goal}
 use Rattle.rhai_grammar.specs.Promises.{written}
 use Rattle.rhai_tokenizer.specs.Meanings.{at_start}
 use Rattle.rhai_tokenizer.specs.Pieces.{Piece, spelled}

@@ -18,10 +18,10 @@ use Rattle.rhai_grammar.specs.Delivered.{is_end}
 use Rattle.rhai_grammar.specs.Libraries.{Library}
 use Rattle.rhai_grammar.specs.Promises.{HasRead, Saw, UnlessMemory}
 use Rattle.rhai_grammar.specs.declared.error.ParseError.{ParseError}
-use Rattle.rhai_reading.specs.Reading.{Goal, Script}
+use Rattle.rhai_grammar_reading.specs.Reading.{Goal, Script}
 use Rattle.rhai_grammar.specs.Promises.{ReadsWhole, Written}
-use Rattle.rhai_productions.proofs.Positions.{refusals_stand_at_tokens}
-use Rattle.rhai_readers.specs.Engines.{EngineValue}
+use Rattle.rhai_grammar_laws.proofs.Positions.{refusals_stand_at_tokens}
+use Rattle.rhai_parser_shared.specs.Engines.{EngineValue}
 use Rattle.rhai_parser.specs.Nesting.{NestsAsWritten}
 use Rattle.rhai_parser.specs.Scripts.{Constants, IsScript, ReadsScript}
 use Rattle.rhai_tokenizer.specs.Readings.{Reads}

@@ -6,7 +6,7 @@ use Rattle.rhai_lower.specs.declared.position.Position.{Position}
 use Rattle.rhai_grammar.specs.Cursors.{Cursor, next_item}
 use Rattle.rhai_grammar.specs.Delivered as G
 use Rattle.rhai_grammar.specs.Delivered.{Mode, Taken, ask, code, later, text}
-use Rattle.rhai_productions.specs.PositionLaws.{StandsAmong}
+use Rattle.rhai_grammar_laws.specs.PositionLaws.{StandsAmong}
 use Rattle.rhai_grammar.specs.Promises.{Saw}
 use Rattle.rhai_grammar.specs.Seen.{Gives, leads}
 use Rattle.rhai_tokenizer.specs.Readings.{Item}

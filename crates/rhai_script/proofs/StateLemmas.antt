@@ -22,18 +22,18 @@ use Rattle.rhai_grammar.specs.Promises.{HasRead, UnlessMemory}
 use Rattle.rhai_grammar.specs.declared.error.ParseError.{ParseError}
 use Rattle.rhai_grammar.specs.declared.filter.ExprFilter.{ExprFilter}
 use Rattle.rhai_grammar.specs.declared.filter.ExprFilter.TheVariants.{All}
-use Rattle.rhai_reading.specs.Reading.{Goal, Script, Whole}
+use Rattle.rhai_grammar_reading.specs.Reading.{Goal, Script, Whole}
 use Rattle.rhai_grammar.specs.Promises.{ReadsWhole, Written}
 use Rattle.rhai_grammar.specs.Forms.{depth}
 use Rattle.rhai_grammar.specs.Rules.{production}
-use Rattle.rhai_productions.proofs.Orders.{libraries_stay_orderly}
+use Rattle.rhai_grammar_laws.proofs.Orders.{libraries_stay_orderly}
 use Rattle.rhai_base.specs.Counts.{Counts, counts_of, none_yet}
 use Rattle.rhai_base.specs.Frames.{known_variables}
 use Rattle.rhai_base.specs.Libraries.{library_of}
 use Rattle.rhai_base.specs.Settings.{settings_of}
 use Rattle.rhai_base.specs.States.{IsFresh}
 use Rattle.rhai_base.specs.declared.settings.ParseSettings.{ParseSettings}
-use Rattle.rhai_readers.specs.Engines.{EngineValue, expr_settings, script_settings, sizes_of}
+use Rattle.rhai_parser_shared.specs.Engines.{EngineValue, expr_settings, script_settings, sizes_of}
 use Rattle.rhai_parser.specs.Scripts.{Constants, IsMadeOf, IsScriptOf, Makes, ReadsScript}
 use Rattle.rhai_grammar.specs.Settings.{one_more}
 use Rattle.rhai_parser.specs.Nesting.{KeepsCounts, NestsAsWritten}

@@ -13,10 +13,10 @@ use Rattle.rhai_grammar.specs.Delivered.{is_end}
 use Rattle.rhai_grammar.specs.Libraries.{Library}
 use Rattle.rhai_grammar.specs.Promises.{IsWritten}
 use Rattle.rhai_grammar.specs.declared.error.ParseError.{ParseError}
-use Rattle.rhai_reading.specs.Reading.{Goal, Script}
+use Rattle.rhai_grammar_reading.specs.Reading.{Goal, Script}
 use Rattle.rhai_grammar.specs.Promises.{Written, written}
 use Rattle.rhai_base.specs.Counts.{Counts, none_yet}
-use Rattle.rhai_readers.specs.Engines.{EngineValue, script_settings}
+use Rattle.rhai_parser_shared.specs.Engines.{EngineValue, script_settings}
 use Rattle.rhai_parser.specs.Nesting.{NestsAsWritten}
 use Rattle.rhai_parser.specs.Scripts.{Constants, IsScript}
 use Rattle.rhai_tokenizer.specs.Meanings.{at_start}

@@ -8,11 +8,11 @@ use Rattle.rhai_grammar.specs.Libraries.{Library}
 use Rattle.rhai_grammar.specs.NumberedLibraries.{IsOrderly}
 use Rattle.rhai_grammar.specs.declared.error.ParseError.{ParseError}
 use Rattle.rhai_grammar.specs.declared.filter.ExprFilter.TheVariants.{All}
-use Rattle.rhai_reading.specs.Reading.{Script, Whole}
+use Rattle.rhai_grammar_reading.specs.Reading.{Script, Whole}
 use Rattle.rhai_base.specs.Frames.{known_variables}
 use Rattle.rhai_base.specs.Settings.{settings_of}
 use Rattle.rhai_base.specs.declared.settings.ParseSettings.{ParseSettings}
-use Rattle.rhai_readers.specs.Engines.{EngineValue, expr_settings, script_settings, sizes_of}
+use Rattle.rhai_parser_shared.specs.Engines.{EngineValue, expr_settings, script_settings, sizes_of}
 use Rattle.rhai_parser.specs.Scripts.{Constants, IsMadeOf, IsScriptOf, Makes}
 use Rattle.rhai_tokenizer.specs.declared.limits.Limits.{Limits}
 use Rattle.rhai_script.specs.Texts.{ReadsText}

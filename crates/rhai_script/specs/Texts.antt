@@ -6,7 +6,7 @@ use Rattle.rhai_grammar.specs.Cursors.{Cursor}
 use Rattle.rhai_grammar.specs.Libraries.{Library}
 use Rattle.rhai_grammar.specs.Promises.{HasRead, UnlessMemory}
 use Rattle.rhai_grammar.specs.declared.error.ParseError.{ParseError}
-use Rattle.rhai_reading.specs.Reading.{Goal}
+use Rattle.rhai_grammar_reading.specs.Reading.{Goal}
 use Rattle.rhai_grammar.specs.Promises.{ReadsWhole, Written}
 use Rattle.rhai_tokenizer.specs.declared.limits.Limits.{Limits}
 use Rattle.rhai_tokenizer.specs.Meanings.{after, at_start}

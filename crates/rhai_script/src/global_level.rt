@@ -14,8 +14,8 @@ ghost use Rattle.rhai_parser.specs.Scripts.{ReadsScript};
 ghost use Rattle.rhai_script.specs.GlobalLevels.{NestsWithin, ReadsTextAsScript, reaching, script_context};
 ghost use Rattle.rhai_script.specs.GlobalLevels.{is_unended, may_go_on, touches_end};
 
-use rhai_leaves::cursor::take;
-use rhai_leaves::tokens::is_end;
+use rhai_base::cursor::take;
+use rhai_base::tokens::is_end;
 use rhai_lower::LexError;
 use rhai_parser::{
     Engine, FnLib, ParseError, ParseErrorType, ParseResult, ParseState, Position, Scope,

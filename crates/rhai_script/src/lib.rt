@@ -22,5 +22,5 @@ pub use rhai_parser::{
     TokenStream, TokenizerControl, Unoptimized, VariableExpr, Walk, make_anonymous_fn, nest_peak,
 };
 pub use rhai_tokenizer::{Limits, Span, Tokens, tokenize};
-pub use rhai_tree_names::{FnNames, names_of};
+pub use rhai_trees::{FnNames, names_of};
 pub use script::{compile, compile_expression, compile_expression_with, compile_with};

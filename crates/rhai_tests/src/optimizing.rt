@@ -3,7 +3,7 @@
 
 use crate::libraries::{Functions, holds_ended};
 use crate::script::{stream_of_line, tokens_taken};
-use rhai_formats::answered;
+use rhai_lists::answered;
 use rhai_parser::{AST, Engine, FnLib, OptimizationLevel, ParseState, TokenizerControl};
 use std::alloc::{AllocError, Global};
 use std::process::Abort;

@@ -1,7 +1,7 @@
 //! Scripts as the tests write them: tokens in one line, with one blank between two. Each stands at its column of line
 //! 1, and the end mark at no position.
 
-use rhai_formats::refusal;
+use rhai_lists::refusal;
 use rhai_parser::{
     AST, Engine, Entry, FnLib, LangOptions, OptimizationLevel, ParseResult, ParseSettingFlags,
     ParseSettings, ParseState, Position, Scope, Token, TokenStream, TokenizerControl, nest_peak,

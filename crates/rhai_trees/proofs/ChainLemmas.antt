@@ -1,5 +1,6 @@
 -- Links, as the code handles them step by step.
-use Rattle.std.proofs.Common.{◌≡◌, ◌<◌, Bool, true, false, List, [], ◌∷◌, ◌++◌, Option, Some, None, length, append_assoc, append-nil, refl, ap, ◌∙◌, sym, arith}
+use Rattle.std.proofs.Common.{◌≡◌, ◌<◌, Bool, true, false, List, [], ◌∷◌, ◌++◌, Option, Some, None, length}
+use Rattle.std.proofs.Common.{append_assoc, append-nil, refl, ap, ◌∙◌, sym, arith}
 use Rattle.std.specs.Option.{option_or}
 use Rattle.rhai_lower.specs.Nodes as node
 use Rattle.rhai_lower.specs.Nodes.{Node, position_of}
@@ -9,8 +10,10 @@ use Rattle.rhai_lower.specs.declared.expr.Expr.{Expr}
 use Rattle.rhai_grammar.specs.Causes.{Refusal}
 use Rattle.rhai_grammar.proofs.ChainLemmas.{chain_of-nest}
 use Rattle.rhai_grammar.specs.Chains as chain
-use Rattle.rhai_grammar.specs.Chains.{chain_of, chained, index_refusal, is_last, last_fault, link_fault, link_node, nest}
-use Rattle.rhai_trees.specs.Chains.{are_none, indexed_by, link_kind_view, link_view, link_views, nest_until, nested_view, with_next}
+use Rattle.rhai_grammar.specs.Chains.{chain_of, chained, index_refusal, is_last, last_fault, link_fault, link_node}
+use Rattle.rhai_grammar.specs.Chains.{nest}
+use Rattle.rhai_trees.specs.Chains.{are_none, indexed_by, link_kind_view, link_view, link_views, nest_until}
+use Rattle.rhai_trees.specs.Chains.{nested_view, with_next}
 use Rattle.rhai_trees.specs.Linked.{is_linked}
 use Rattle.rhai_trees.specs.declared.chain.NestedLink.{NestedLink}
 use Rattle.rhai_trees.specs.declared.link.Link.{Link}

@@ -4,3 +4,12 @@ pub mod ChainLemmas
 pub mod LinkedLemmas
 pub mod StatementLemmas
 pub mod StringLemmas
+pub mod CaseKeyLemmas
+pub mod DigestLemmas
+pub mod CaseIndexLemmas
+pub mod CaseSearchLemmas
+pub mod SwitchLemmas
+pub mod BoolLemmas
+pub mod NameLemmas
+pub mod NotedLemmas
+pub mod SetLemmas

@@ -1,5 +1,6 @@
 -- Values, calls and what operators make are no chains.
-use Rattle.std.proofs.Common.{◌≡◌, ℕ, ℤ, Bool, true, false, List, [], ◌∷◌, None, Ok, Err, refl, ap, ◌∙◌, sym, if◌then◌else◌}
+use Rattle.std.proofs.Common.{◌≡◌, ℕ, ℤ, Bool, true, false, List, [], ◌∷◌, None, Ok, Err, refl, ap, ◌∙◌, sym}
+use Rattle.std.proofs.Common.{if◌then◌else◌}
 use Rattle.rhai_lower.specs.Texts.{Text}
 use Rattle.rhai_lower.specs.Lexemes.{Lexeme, Sign}
 use Rattle.rhai_lower.specs.declared.token.Token.TheVariants.{True, False}
@@ -12,7 +13,8 @@ use Rattle.rhai_grammar.specs.Closures.{closure_value}
 use Rattle.rhai_grammar.specs.Uses.{Use}
 use Rattle.rhai_grammar.specs.Contexts.{Context, Live}
 use Rattle.rhai_grammar.specs.Modules.{module_fault}
-use Rattle.rhai_grammar.specs.Operators.{boolean_holds, joined_tree, joining, list_tree, mismatched, operator_result, operator_tree}
+use Rattle.rhai_grammar.specs.Operators.{boolean_holds, joined_tree, joining, list_tree, mismatched, operator_result}
+use Rattle.rhai_grammar.specs.Operators.{operator_tree}
 use Rattle.rhai_grammar.specs.Signs.{affected, effect, malformed, plain_sign, sign_holds, sign_result, signed}
 use Rattle.rhai_grammar.specs.Trees.{is_variable}
 use Rattle.rhai_grammar.specs.declared.role.Effect.{Effect}

@@ -1,5 +1,6 @@
 -- What a binary operator makes of its operands, as the code tests them.
-use Rattle.std.proofs.Common.{◌≡◌, ◌∙◌, IfErr, IfOk, Bool, true, false, List, [], ◌∷◌, ◌++◌, Option, Some, None, Result, Ok, Err, refl, sym, ap}
+use Rattle.std.proofs.Common.{◌≡◌, ◌∙◌, IfErr, IfOk, Bool, true, false, List, [], ◌∷◌, ◌++◌, Option, Some, None}
+use Rattle.std.proofs.Common.{Result, Ok, Err, refl, sym, ap}
 use Rattle.std.specs.Prelude.{codes, if◌then◌else◌, is_none, unwrap_or}
 use Rattle.rhai_lower.specs.Texts.{Text}
 use Rattle.rhai_lower.specs.Lexemes.{Lexeme}
@@ -14,7 +15,8 @@ use Rattle.rhai_grammar.specs.Constructs.{guard_fault, type_fault}
 use Rattle.rhai_grammar.specs.Kinds.{not_boolean}
 use Rattle.rhai_grammar.specs.declared.role.ListKind.TheVariants as lists_of
 use Rattle.rhai_grammar.specs.declared.role.Joining.TheVariants as joins
-use Rattle.rhai_grammar.specs.Operators.{boolean_holds, joined, joined_tree, joining, mismatched, operator_call, operator_result, operator_tree, takes_booleans}
+use Rattle.rhai_grammar.specs.Operators.{boolean_holds, joined, joined_tree, joining, mismatched, operator_call}
+use Rattle.rhai_grammar.specs.Operators.{operator_result, operator_tree, takes_booleans}
 use Rattle.rhai_trees.specs.Views.{operand_fault}
 use Rattle.rhai_lower.proofs.Views.{view_and, view_or, view_coalesce}
 

@@ -1,5 +1,6 @@
 -- What a sign gives, as the code tests its operand.
-use Rattle.std.proofs.Common.{◌≡◌, ℕ, zero, suc, ℤ, pos, negsuc, ◌<◌, ◌^◌, ◌-◌, Bool, true, false, Some, None, Result, Ok, Err, refl, ap, ◌∙◌, subst, arith}
+use Rattle.std.proofs.Common.{◌≡◌, ℕ, zero, suc, ℤ, pos, negsuc, ◌<◌, ◌^◌, ◌-◌, Bool, true, false, Some, None, Result}
+use Rattle.std.proofs.Common.{Ok, Err, refl, ap, ◌∙◌, subst, arith}
 use Rattle.std.specs.Prelude.{neg_ℤ, FitsSigned, if◌then◌else◌, not}
 use Rattle.std.specs.Ordering.{int_eq}
 use Rattle.std.specs.Cmp.{signed_Decides}
@@ -10,7 +11,8 @@ use Rattle.rhai_lower.specs.declared.position.Position.{Position}
 use Rattle.rhai_grammar.specs.Causes.{Refusal}
 use Rattle.rhai_grammar.specs.declared.role.Effect.{Effect}
 use Rattle.rhai_grammar.specs.declared.role.Effect.TheVariants.{Negates, Keeps, Calls}
-use Rattle.rhai_grammar.specs.Signs.{affected, effect, effect_holds, malformed, plain_sign, sign_call, sign_result, least}
+use Rattle.rhai_grammar.specs.Signs.{affected, effect, effect_holds, malformed, plain_sign, sign_call, sign_result}
+use Rattle.rhai_grammar.specs.Signs.{least}
 use Rattle.rhai_trees.specs.Views.{integer_value, negated}
 use Rattle.rhai_lower.proofs.Views.{view_integer}
 

@@ -7,7 +7,8 @@ use Rattle.rhai_lower.specs.View.{statement_view}
 use Rattle.rhai_lower.specs.declared.expr.Expr.{Expr}
 use Rattle.rhai_lower.specs.declared.stmt.Stmt.TheVariants as stmt
 use Rattle.rhai_lower.specs.declared.position.Position.{Position}
-use Rattle.rhai_lower.proofs.Views.{statement_views_push, view_break, view_break_alone, view_return, view_return_alone, view_unit, view_variable}
+use Rattle.rhai_lower.proofs.Views.{statement_views_push, view_break, view_break_alone, view_return}
+use Rattle.rhai_lower.proofs.Views.{view_return_alone, view_unit, view_variable}
 use Rattle.rhai_grammar.specs.Trees.{with_kept}
 use Rattle.rhai_trees.specs.Statements.{boxed_view, is_empty}
 

@@ -1,6 +1,7 @@
 use Rattle.std.proofs.Common.{◌≡◌, ◌∙◌, length, rules, sym}
 use Rattle.std.specs.Rc.{rc_str_bytes}
-use Rattle.rhai_lower.specs.Nodes.{block_value, braces, call, expression, no_statements, one_node, one_statement, pointer, share}
+use Rattle.rhai_lower.specs.Nodes.{block_value, braces, call, expression, no_statements, one_node, one_statement}
+use Rattle.rhai_lower.specs.Nodes.{pointer, share}
 use Rattle.rhai_lower.specs.Positions.{nowhere}
 use Rattle.rhai_lower.proofs.Views.{view_call, view_expression, view_pointer, view_share}
 use Rattle.rhai_lower.specs.View.{called, view}

@@ -4,7 +4,8 @@ use Rattle.std.specs.List.{list_any}
 use Rattle.rhai_lower.specs.Texts.{same_text}
 use Rattle.rhai_lower.specs.Slots.{slot_at}
 use Rattle.rhai_grammar.specs.Slots.{is_barrier, number}
-use Rattle.rhai_base.proofs.FindLemmas.{number-empty, number-other, barrier-there, barrier-after, found-here, named-barrier, named-other, named-here}
+use Rattle.rhai_base.proofs.FindLemmas.{number-empty, number-other, barrier-there, barrier-after, found-here}
+use Rattle.rhai_base.proofs.FindLemmas.{named-barrier, named-other, named-here}
 use Rattle.rhai_base.proofs.lookup.find_slot.Goals as goal
 
 pub loop-i-init : goal.loop-i-init

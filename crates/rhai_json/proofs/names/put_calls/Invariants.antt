@@ -1,6 +1,6 @@
 -- What is written is what is left from the index on, behind what was written.
 use Rattle.std.proofs.Common.{◌≡◌, drop}
-use Rattle.rhai_tree_names.specs.FnNames.{counted}
+use Rattle.rhai_trees.specs.FnNames.{counted}
 use Rattle.rhai_json.specs.Fields.{items}
 use Rattle.rhai_json.specs.NameLists.{call_value}
 use Rattle.rhai_json.proofs.names.put_calls.Given as goal

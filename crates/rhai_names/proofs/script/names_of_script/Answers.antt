@@ -6,11 +6,11 @@ use Rattle.rhai_base.specs.Counts.{counts_of}
 use Rattle.rhai_base.specs.Libraries.{library_of}
 use Rattle.rhai_grammar.specs.Causes.{no_memory}
 use Rattle.rhai_grammar.specs.Cursors.{cursor_of}
-use Rattle.rhai_readers.specs.Engines.{script_settings}
+use Rattle.rhai_parser_shared.specs.Engines.{script_settings}
 use Rattle.rhai_parser.specs.Nesting.{NestsAsWritten, StaysWithin}
 use Rattle.rhai_parser.specs.Scripts.{ReadsScript}
 use Rattle.rhai_parser.specs.Starts.{live_in, starts_in}
-use Rattle.rhai_tree_names.specs.FnNames.{AreNamesOf}
+use Rattle.rhai_trees.specs.FnNames.{AreNamesOf}
 use Rattle.rhai_names.specs.Scripts.{Answer, ReadsNames}
 use Rattle.rhai_names.proofs.ScriptLemmas.{names_read, names_refused, names_unmade}
 use Rattle.rhai_names.proofs.script.names_of_script.Goals as goal

@@ -1,9 +1,9 @@
 -- What these functions lend, where less is left to do than at their own call.
 use Rattle.std.proofs.Common.{ℕ, ◌≡◌, ◌<◌, ◌∙◌, ap, arith, false, rules, subst, sym}
 use Rattle.rhai_grammar.specs.Beginnings.{beginning}
-use Rattle.rhai_readers.specs.PlainPrimaries.{is_plain}
-use Rattle.rhai_reading.specs.Running.{need, next_item}
-use Rattle.rhai_readers.specs.Readers.{construct, expression, inside, primary, state_of, statement}
+use Rattle.rhai_parser_shared.specs.PlainPrimaries.{is_plain}
+use Rattle.rhai_grammar_reading.specs.Running.{need, next_item}
+use Rattle.rhai_parser_shared.specs.Readers.{construct, expression, inside, primary, state_of, statement}
 use Rattle.rhai_parser.proofs.lending.+parser.Goals as goal
 
 -- A need that falls below another is below what that other is measured by.

@@ -1,5 +1,5 @@
-use Rattle.rhai_reading.specs.Running.{need}
-use Rattle.rhai_readers.specs.Readers.{construct, expression, inside, primary, state_of, statement}
+use Rattle.rhai_grammar_reading.specs.Running.{need}
+use Rattle.rhai_parser_shared.specs.Readers.{construct, expression, inside, primary, state_of, statement}
 use Rattle.rhai_parser.proofs.lending.+parser.Given as goal
 
 abbrev pub decreases-parse_chain : goal.decreases-parse_chain

@@ -5,7 +5,7 @@ use Rattle.rhai_grammar.specs.Cursors.{cursor_of}
 use Rattle.rhai_grammar.specs.NumberedLibraries.{IsOrderly}
 use Rattle.rhai_base.specs.Counts.{counts_of}
 use Rattle.rhai_base.specs.Libraries.{library_of}
-use Rattle.rhai_readers.specs.Engines.{script_settings}
+use Rattle.rhai_parser_shared.specs.Engines.{script_settings}
 use Rattle.rhai_script.proofs.StateLemmas.{IsNew, entered_so, fresh, nests_parsed, order_kept, script_left}
 use Rattle.rhai_script.proofs.StateLemmas.{script_parsed}
 use Rattle.rhai_script.proofs.global_level.read_stream.Goals as goal

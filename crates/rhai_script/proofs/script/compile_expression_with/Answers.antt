@@ -3,9 +3,9 @@ use Rattle.std.proofs.Common.{◌≡◌, ◌∙◌, [], Err, map, refl, rules, s
 use Rattle.rhai_lower.specs.Entries.{ask_of}
 use Rattle.rhai_lower.specs.Streams.{stream_of}
 use Rattle.rhai_grammar.specs.Causes.{no_memory}
-use Rattle.rhai_reading.specs.Reading.{Whole}
-use Rattle.rhai_productions.proofs.Positions.{refusals_stand_at_tokens}
-use Rattle.rhai_readers.specs.Engines.{expr_settings}
+use Rattle.rhai_grammar_reading.specs.Reading.{Whole}
+use Rattle.rhai_grammar_laws.proofs.Positions.{refusals_stand_at_tokens}
+use Rattle.rhai_parser_shared.specs.Engines.{expr_settings}
 use Rattle.rhai_parser.specs.Scripts.{IsScriptOf}
 use Rattle.rhai_script.specs.Deliveries.{IsStreamOf}
 use Rattle.rhai_script.specs.Scripts.{ReadsTextAsExpression}

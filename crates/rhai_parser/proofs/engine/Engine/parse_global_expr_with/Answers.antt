@@ -5,7 +5,7 @@ use Rattle.rhai_base.specs.Libraries.{library_of}
 use Rattle.rhai_grammar.specs.Cursors.{cursor_of, mode_by}
 use Rattle.rhai_parser.specs.Scripts.{ReadsExpression}
 use Rattle.rhai_parser.proofs.NestLemmas.{orderly_so}
-use Rattle.rhai_readers.specs.Frames.{context_of, live_of}
+use Rattle.rhai_parser_shared.specs.Frames.{context_of, live_of}
 use Rattle.rhai_parser.proofs.FrameLemmas.{frame_is}
 use Rattle.rhai_parser.proofs.engine.Engine.parse_global_expr_with.Goals as goal
 

@@ -8,7 +8,7 @@ use Rattle.std.proofs.Common.{IfOk}
 use Rattle.rhai_base.specs.Counts.{Counts, counts_of, with_entered, with_peak}
 use Rattle.rhai_base.specs.Frames.{FrameValue}
 use Rattle.rhai_base.specs.Libraries.{library_of}
-use Rattle.rhai_readers.specs.Frames.{context_of}
+use Rattle.rhai_parser_shared.specs.Frames.{context_of}
 use Rattle.rhai_parser.specs.Nesting.{NestsAsWritten}
 use Rattle.rhai_parser.specs.Scripts.{ReadsScript}
 use Rattle.rhai_parser.specs.Starts.{live_in, starts_in}

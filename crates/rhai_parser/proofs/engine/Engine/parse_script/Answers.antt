@@ -4,15 +4,16 @@ use Rattle.std.proofs.Math.Nat.{le-max_left}
 use Rattle.rhai_lower.specs.View.{statement_views}
 use Rattle.rhai_grammar.specs.Causes.{refusal_of}
 use Rattle.rhai_grammar.specs.Cursors.{cursor_of}
-use Rattle.rhai_reading.specs.Reading.{Script}
-use Rattle.rhai_reading.specs.Running.{Done, Progress, Refused, result_of}
+use Rattle.rhai_grammar_reading.specs.Reading.{Script}
+use Rattle.rhai_grammar_reading.specs.Running.{Done, Progress, Refused, result_of}
 use Rattle.rhai_base.specs.Counts.{counts_of}
 use Rattle.rhai_base.specs.Libraries.{library_of}
-use Rattle.rhai_readers.specs.Frames.{context_of}
-use Rattle.rhai_readers.specs.Readers.{nesting_of}
+use Rattle.rhai_parser_shared.specs.Frames.{context_of}
+use Rattle.rhai_parser_shared.specs.Readers.{nesting_of}
 use Rattle.rhai_parser.proofs.NestLemmas.{if_ok, nests_written, seen_of}
-use Rattle.rhai_parser.proofs.PromiseLemmas.{Entries, begins_read, begins_same, script_done, script_fails, has_read_done, has_read_fails, reads_none}
-use Rattle.rhai_productions.proofs.Main.{script_entry}
+use Rattle.rhai_parser.proofs.PromiseLemmas.{Entries, begins_read, begins_same, script_done, script_fails}
+use Rattle.rhai_parser.proofs.PromiseLemmas.{has_read_done, has_read_fails, reads_none}
+use Rattle.rhai_grammar_laws.proofs.Main.{script_entry}
 use Rattle.rhai_parser.proofs.engine.Engine.parse_script.Goals as goal
 
 pub returns-in_err-library-clause-reads : goal.returns-in_err-library-clause-reads

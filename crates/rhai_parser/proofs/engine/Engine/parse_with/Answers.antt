@@ -7,8 +7,8 @@ use Rattle.rhai_base.specs.Counts.{counts_of}
 use Rattle.rhai_base.specs.Frames.{FrameValue}
 use Rattle.rhai_base.specs.Libraries.{library_of}
 use Rattle.rhai_base.specs.declared.settings.ParseSettings.{ParseSettings}
-use Rattle.rhai_readers.specs.Frames.{context_of}
-use Rattle.rhai_readers.specs.Engines.{script_settings}
+use Rattle.rhai_parser_shared.specs.Frames.{context_of}
+use Rattle.rhai_parser_shared.specs.Engines.{script_settings}
 use Rattle.rhai_parser.specs.Scripts.{ReadsScript}
 use Rattle.rhai_parser.specs.Starts.{live_in, starts_in}
 use Rattle.rhai_parser.proofs.FrameLemmas.{frame_is}

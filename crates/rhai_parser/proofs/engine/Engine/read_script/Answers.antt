@@ -3,12 +3,13 @@ use Rattle.rhai_lower.specs.View.{view}
 use Rattle.rhai_grammar.specs.Causes.{refusal_of}
 use Rattle.rhai_grammar.specs.Cursors.{cursor_of}
 use Rattle.rhai_base.specs.Libraries.{library_of}
-use Rattle.rhai_readers.specs.Readers.{nesting_of}
-use Rattle.rhai_readers.specs.Frames.{context_of, live_of}
-use Rattle.rhai_reading.specs.Reading.{Whole}
-use Rattle.rhai_reading.specs.Running.{Done, Progress, Refused, result_of}
-use Rattle.rhai_parser.proofs.PromiseLemmas.{Entries, begins_read, begins_same, expression_done, expression_fails, has_read_done, has_read_fails}
-use Rattle.rhai_productions.proofs.Main.{expression_entry}
+use Rattle.rhai_parser_shared.specs.Readers.{nesting_of}
+use Rattle.rhai_parser_shared.specs.Frames.{context_of, live_of}
+use Rattle.rhai_grammar_reading.specs.Reading.{Whole}
+use Rattle.rhai_grammar_reading.specs.Running.{Done, Progress, Refused, result_of}
+use Rattle.rhai_parser.proofs.PromiseLemmas.{Entries, begins_read, begins_same, expression_done, expression_fails}
+use Rattle.rhai_parser.proofs.PromiseLemmas.{has_read_done, has_read_fails}
+use Rattle.rhai_grammar_laws.proofs.Main.{expression_entry}
 use Rattle.rhai_parser.proofs.engine.Engine.read_script.Goals as goal
 
 pub returns-in-Ok-clause-reads : goal.returns-in-Ok-clause-reads

@@ -4,10 +4,10 @@ use Rattle.rhai_grammar.specs.Uses.{Use}
 use Rattle.rhai_base.specs.Counts.{counts_of}
 use Rattle.rhai_base.specs.Libraries.{library_of}
 use Rattle.rhai_base.specs.Uses.{uses_of}
-use Rattle.rhai_reading.specs.Reading.{Script}
-use Rattle.rhai_reading.specs.Running.{Gives, Progress, result_of}
-use Rattle.rhai_readers.specs.Frames.{context_of}
-use Rattle.rhai_readers.specs.Readers.{nesting_of, state_of, statements_of, with_live}
+use Rattle.rhai_grammar_reading.specs.Reading.{Script}
+use Rattle.rhai_grammar_reading.specs.Running.{Gives, Progress, result_of}
+use Rattle.rhai_parser_shared.specs.Frames.{context_of}
+use Rattle.rhai_parser_shared.specs.Readers.{nesting_of, state_of, statements_of, with_live}
 use Rattle.rhai_parser.specs.Nesting.{StaysWithin}
 use Rattle.rhai_parser.proofs.NestLemmas.{stays_read}
 use Rattle.rhai_parser.proofs.engine.Engine.read_statements.Goals as goal

@@ -1,4 +1,0 @@
-pub mod Arms
-pub mod Digests
-pub mod CaseKeys
-pub mod Switches

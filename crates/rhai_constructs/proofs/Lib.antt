@@ -1,2 +1,0 @@
-pub mod ConstructReaders
-pub mod SwitchLemmas

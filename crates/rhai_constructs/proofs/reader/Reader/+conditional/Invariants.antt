@@ -1,9 +1,0 @@
-use Rattle.rhai_reading.specs.Running.{need}
-use Rattle.rhai_readers.specs.Readers.{branch, conditional, state_of}
-use Rattle.rhai_constructs.proofs.reader.Reader.+conditional.Given as goal
-
-abbrev pub decreases-parse_if : goal.decreases-parse_if
-decreases-parse_if g l = need (conditional l.self.now.engine.now l.frame.now l.settings) (state_of l.shared.now)
-
-abbrev pub decreases-parse_else : goal.decreases-parse_else
-decreases-parse_else g l = need (branch l.self.now.engine.now l.frame.now l.settings) (state_of l.shared.now)

@@ -1,0 +1,332 @@
+-- Each production keeps libraries orderly: the table, and the law.
+use Rattle.std.proofs.Common.{◌≡◌, ℕ, ◌+◌, true, None, List, [], ◌∷◌, refl, subst, ap, length}
+use Rattle.rhai_lower.specs.Nodes as node
+use Rattle.rhai_grammar.specs.declared.list.CommaList.TheVariants as lists
+use Rattle.rhai_grammar.specs.Prelude.{Context, Live, Text, target_fault}
+use Rattle.rhai_grammar.specs.Prelude.{is_constant_use, is_name, guard_fault, iterated_fault}
+use Rattle.rhai_grammar.specs.Prelude.{has_single_blocks}
+use Rattle.rhai_grammar.specs.Prelude.{index_refusal}
+use Rattle.rhai_grammar.specs.Prelude.{arm_fault}
+use Rattle.rhai_grammar.specs.Prelude.{Use, Library, Refusal}
+use Rattle.rhai_grammar.specs.Prelude.{is_new, names_function}
+use Rattle.rhai_grammar.specs.Prelude.{closure_count, closure_name, ended_closure, made_block, noop}
+use Rattle.rhai_grammar.proofs.LibrarySteps.{Kept, few_closures}
+use Rattle.rhai_grammar.proofs.LibraryLemmas.{key_is_new}
+use Rattle.rhai_grammar.proofs.EventEnds.{no_closure}
+use Rattle.rhai_grammar.proofs.SparedFaults as D
+use Rattle.rhai_grammar_reading.specs.Reading as R
+use Rattle.rhai_grammar_reading.specs.Reading.{Goal, Val}
+use Rattle.rhai_grammar.specs.Productions.{give}
+use Rattle.rhai_grammar.specs.Rules as P
+use Rattle.rhai_grammar.specs.Rules.{production}
+use Rattle.rhai_grammar_laws.proofs.Constructs.{order_of_construct}
+use Rattle.rhai_grammar_laws.proofs.Ordering.{Spared, missing_spared, unexpected_spared}
+use Rattle.rhai_grammar_laws.proofs.OrderCauses.{fault, no_body, no_function_name, no_variable}
+use Rattle.rhai_grammar_laws.proofs.OrdersOfOperands.{Begun, OrdersAs, Right, by_either, either_of, parted, operand}
+use Rattle.rhai_grammar_laws.proofs.OrdersOfOperands.{right, primary, called, call_of, links, element, key, field}
+use Rattle.rhai_grammar_laws.proofs.OrdersOfOperands.{follower, binary}
+use Rattle.std.proofs.Common.{◌∙◌, sym, arith}
+use Rattle.rhai_grammar.specs.Prelude.{Point, Met, Missed, Mode, IsOrderly, Nothing, apart, with_captured, capturing}
+use Rattle.rhai_grammar.specs.Prelude.{is_captured, in_closure, level_up, parameters_live}
+use Rattle.rhai_grammar.proofs.LibraryLemmas.{empty}
+use Rattle.rhai_grammar_reading.specs.Reading.{ClosureBody}
+use Rattle.rhai_grammar.specs.Forms as Form
+use Rattle.rhai_grammar_laws.specs.LibraryLaws.{FormsKeepOrder, LibrariesStayOrderly}
+use Rattle.rhai_grammar_laws.proofs.Ordering.{ended, ordered, stops}
+use Rattle.rhai_grammar_laws.proofs.OrdersOfStatements.{export, statement, statements, inside, do_end, arms}
+use Rattle.rhai_grammar_laws.proofs.OrdersOfStatements.{action, arm_end, default_end, parameters, parameter, begins}
+use Rattle.rhai_grammar_laws.proofs.OrdersOfStatements.{inner, joins, closure}
+
+module _ (limit : ℕ) where
+  abbrev Table : Goal → Type 0
+  Table g = (b : ℕ) (l : Library) → Begun limit b g → Kept limit b l
+      → OrdersAs limit (λ x. Right g x) b (production g) l
+
+  pub table : (g : Goal) (b : ℕ) (l : Library) → Begun limit b g → Kept limit b l
+      → OrdersAs limit (λ x. Right g x) b (production g) l
+  table (R.Whole c w) b l i o = (b, o, i, λ x m r o. ((tt, o), unexpected_spared))
+  table (R.Expression c w) b l i o = λ at. (λ e. refl, λ s. (b, o, i, λ x m r o. (b, o, i, λ x m r o. (tt, o))))
+  table (R.Operand c w) b l i o = λ v n e. operand limit c w v b l i o
+  table (R.RightOperand c w place) b l i o = λ v n e. right limit c w v b l i o
+  table (R.Primary c w) b l i o = λ v n e. primary limit c w v b l i o
+  table (R.Called c w name q) b l i o = λ v n e. called limit c w name q v b l i o
+  table (R.Path w x) b l i o = λ n at. (no_variable, λ n p. ((b, o, tt, λ x m r o. (tt, o)), (tt, o)))
+  table (R.Links w spot) b l i o = λ v n e. links limit w spot v b l i.0 i.1 o
+  table (R.Index c w indexed) b l i o = (
+    b,
+    o,
+    i,
+    λ x m r o. (
+      fault (index_refusal indexed x) (D.index_refusal indexed x),
+      λ s. (missing_spared _, λ n at. (tt, o)),
+    ),
+  )
+  table (R.Member c w) b l i o = λ n at. (
+    (b, o, i, λ x m r o. (tt, o)),
+    either_of limit (is_name n) _ _ b l (λ n. refl, (tt, o)) (λ e. refl, λ s n. refl),
+  )
+  table (R.Postfix c w x) b l i o = ((b, o, tt, λ y m r o. call_of limit c w y b m i o), call_of limit c w x b l i o)
+  table (R.Arguments c w at) b l i o = (
+    missing_spared _,
+    (λ n p. (tt, o), (λ e. refl, λ s. (b, o, i, λ x m r o. (tt, o)))),
+  )
+  table (R.Items c w before) b l i o = (
+    b,
+    o,
+    i,
+    λ x m r o v n e. parted limit lists.Arguments _ _ v b m
+        (λ n at. (tt, o), (b, o, i, λ x m r o. (tt, o))) (tt, o),
+  )
+  table (R.Elements c w opening before) b l i o = λ v n e. element limit c w opening before v b l i o
+  table (R.Fields c w opening before) b l i o = (b, o, tt, λ v m r o. field limit c w opening before v b m i o)
+  table (R.Segments c w opening before) b l i o = (
+    b,
+    o,
+    tt,
+    λ p m r o. (
+      λ e. refl,
+      λ s. (
+        b,
+        o,
+        i,
+        λ fs m r o.
+            (b, o, tt, λ t m r o. either_of limit t.2 _ _ b m (tt, o) (b, o, i, λ x m r o. (tt, o))),
+      ),
+    ),
+  )
+  table R.TextAfter b l i o = λ closing n at. (tt, o)
+  table (R.Jump c w at) b l i o = ((λ e. refl, λ s. (b, o, i, λ x m r o. (tt, o))), (λ e. refl, λ s. (tt, o)))
+  table (R.NextKey c before) b l i o = λ v n e. key limit c before v n e b l o
+  table (R.NextOperator filter) b l i o = λ v n e. follower limit v b l o
+  table (R.BinaryOp c w at parent lhs) b l i o = (b, o, tt, λ v m r o. binary limit c w at parent lhs v b m i o)
+  table (R.ExprStatement c w) b l i o = (
+    b,
+    o,
+    i,
+    λ x m r o. (
+      λ n at. (
+        b,
+        o,
+        i,
+        λ y m r o. (
+          fault (target_fault (is_constant_use w.slots x) n at x) (D.target_fault (is_constant_use w.slots x) n at x),
+          λ s. (tt, o),
+        ),
+      ),
+      (tt, o),
+    ),
+  )
+  table (R.VarName c w) b l i o = (λ n at. (λ e. refl, λ s. (tt, o)), no_variable)
+  table (R.Initializer c w at) b l i o = (λ n p. (λ e. refl, λ s. (b, o, i, λ x m r o. (tt, o))), (tt, o))
+  table (R.Definition c w at k x) b l i o = (b, o, tt, λ x m r o. (b, o, i, λ x m r o. (tt, o)))
+  table (R.Import c w at) b l i o = (b, o, i, λ x m r o. (b, o, tt, λ x m r o. (tt, o)))
+  table (R.Export c w at) b l i o = λ v n e. export limit c w at v b l i o
+  table R.Alias b l i o = (λ n at. (no_variable, λ n p. (tt, o)), (tt, o))
+  table (R.Statement c w) b l i o = λ v n e. statement limit c w v b l i o
+  table (R.Statements closing c w before) b l i o = λ v n e. statements limit closing c w before v b l i o
+  table R.BlockStart b l i o = (missing_spared _, λ n at. (tt, o))
+  table (R.Inside c w) b l i o = inside limit c w (has_single_blocks c) b l i o
+  table (R.Block c w at) b l i o = (b, o, i, λ x m r o. (b, o, tt, λ x m r o. (tt, o)))
+  table (R.BlockEnd at fs) b l i o = (missing_spared _, λ n p. (tt, o))
+  table (R.Construct c w at kind) b l i o = order_of_construct limit c w at kind b l i o
+  table (R.Braced c w at) b l i o = (b, o, tt, λ x m r o. (λ e. refl, λ s. (b, o, i, λ x m r o. (tt, o))))
+  table (R.Guard c w) b l i o = (
+    λ n. refl,
+    (
+      b,
+      o,
+      i,
+      λ x m r o. (
+        fault (guard_fault x) (D.guard_fault x),
+        λ s. (λ n. refl, (tt, o)),
+      ),
+    ),
+  )
+  table (R.Iterated c w) b l i o = (
+    λ n. refl,
+    (
+      b,
+      o,
+      i,
+      λ x m r o. (
+        fault (iterated_fault x) (D.iterated_fault x),
+        λ s. (tt, o),
+      ),
+    ),
+  )
+  table (R.Conditional c w at) b l i o = (b, o, i, λ x m r o. (b, o, i, λ x m r o. (b, o, i, λ x m r o. (tt, o))))
+  table (R.Branch c w at) b l i o = (
+    λ n p. (
+      λ n q. (λ e. refl, λ s. (b, o, i, λ x m r o. (tt, o))),
+      (b, o, i, λ x m r o. (tt, o)),
+    ),
+    (tt, o),
+  )
+  table R.LoopNames b l i o = (
+    λ n at. (
+      no_variable,
+      λ n p. (
+        missing_spared _,
+        λ n q. (
+          no_variable,
+          λ n r. (
+            λ e. refl,
+            λ s.
+                (missing_spared _, λ n u. (missing_spared _, λ n v. (tt, o))),
+          ),
+        ),
+      ),
+    ),
+    (no_variable, λ n at. (missing_spared _, λ n p. (tt, o))),
+  )
+  table R.Catch b l i o = (
+    missing_spared _,
+    λ n at. (
+      λ n p. (no_variable, λ n q. (missing_spared _, λ n r. (tt, o))),
+      (tt, o),
+    ),
+  )
+  table R.DoEnd b l i o = λ v n e. do_end limit v b l o
+  table (R.Arms c w before) b l i o = λ v n e. arms limit c w before v b l i o
+  table (R.Arm c w before) b l i o = (
+    b,
+    o,
+    i,
+    λ xs m r o. (
+      b,
+      o,
+      i,
+      λ g m r o. (
+        missing_spared _,
+        λ n at. (
+          b,
+          o,
+          i,
+          λ d m r o. (
+            fault (arm_fault before xs) (D.arm_fault before xs),
+            λ s. (b, o, tt, λ x m r o. (tt, o)),
+          ),
+        ),
+      ),
+    ),
+  )
+  table (R.DefaultArm c w default) b l i o = (
+    λ n. refl,
+    (
+      missing_spared _,
+      λ n at. (
+        b,
+        o,
+        i,
+        λ d m r o.
+            (b, o, tt, λ x m r o. (b, o, tt, λ x m r o. (tt, o))),
+      ),
+    ),
+  )
+  table (R.Cases c w before) b l i o = (b, o, i, λ x m r o. (λ n at. (b, o, i, λ x m r o. (tt, o)), (tt, o)))
+  table (R.Case c w) b l i o = (b, o, i, λ x m r o. (tt, o))
+  table (R.CaseGuard c w) b l i o = (λ n at. (b, o, i, λ x m r o. (tt, o)), (tt, o))
+  table (R.Action c w) b l i o = action limit c w (has_single_blocks c) b l i o
+  table (R.ArmEnd itself) b l i o = λ v n e. arm_end limit itself v b l o
+  table (R.DefaultEnd default) b l i o = λ v n e. default_end limit default v b l o
+  table (R.Comments before) b l i o = (λ n at. (b, o, tt, λ x m r o. (tt, o)), (tt, o))
+  table (R.FunctionStatement c w comments p at is_private) b l i o = (
+    λ e. refl,
+    λ s. (
+      λ e. refl,
+      λ room. (
+        λ e. refl,
+        λ s. (
+          b + 1,
+          begins limit c b l i o room,
+          inner limit c b i,
+          λ f m r o. joins limit (node.Statement × Live) f at (noop at, w) b m r.0 r.1 o,
+        ),
+      ),
+    ),
+  )
+  table (R.Function c comments at is_private) b l i o = (
+    b,
+    o,
+    tt,
+    λ head m named o. (
+      b,
+      o,
+      tt,
+      λ names m r o. (
+        λ n p. (
+          λ e. refl,
+          λ s. (
+            b,
+            o,
+            i,
+            λ x m r o. (
+              (no_closure head.0 head.1 (length names) named, no_closure None head.1 (length names) named),
+              o,
+            ),
+          ),
+        ),
+        no_body head.1,
+      ),
+    ),
+  )
+  table R.FunctionHead b l i o = (
+    no_function_name,
+    λ n at. (
+      λ n p. (no_function_name, λ n q. (λ e. refl, λ s. (s, o))),
+      by_either limit (λ x. names_function x.1 ≡ true) (is_name n) _ _ b l (λ e. refl, λ s. (s, o)) (missing_spared _),
+    ),
+  )
+  table (R.ParameterList f) b l i o = λ v n e. parameters limit f v b l o
+  table (R.Parameters parts f before) b l i o = λ v n e. parameter limit parts f before v b l o
+  table (R.Closure c w at by) b l i o = (λ e. refl, λ room. closure limit c w at by b l i (begins limit c b l i o room))
+  table (R.ClosureBody c w) b l i o = (λ at. (tt, o), (b, o, i, λ x m r o. (tt, o)))
+
+-- ---- the law
+
+keeps_order : (c : Context) (g : Goal) → Begun c.sizes.functions c.begun g → FormsKeepOrder c g
+keeps_order c g i = record {
+  met = λ x f s t bound h m. (ended n (Begun n) Right production (table n) (Right g x) c.begun t
+      (ordered n (Begun n) Right production (table n) f c.begun Nothing s t i (h, bound) m)).1.0;
+  missed = λ f s t e mode bound h m. (left f s t e mode (h, bound) m).1;
+  cause = λ f s t e mode bound h m. (left f s t e mode (h, bound) m).0;
+}
+  where
+    n : ℕ
+    n = c.sizes.functions
+
+    left : (f : Form.Open production g) (s t : Point) (e : Refusal) (mode : Mode) → Kept n c.begun s.library
+        → Missed (Form.stops production f) s e mode t → Spared e × IsOrderly n 0 t.library
+    left f s t e mode h m = stops n (Begun n) Right production (table n) f c.begun s e mode t i h m
+
+-- The uses of captured names change no library.
+used_there : {h : Goal} (us : List Use) (c : Context) (w : Live) (y : Val h) {x : Val h}
+    (rest : Form.Filled production h (P.captured us c w (give y)) x) (s t : Point)
+    → Met (Form.demanded production rest Nothing) s t → s.library ≡ t.library
+used_there [] c w y Form.given s t m = ap (λ (p : Point). p.library) m
+used_there (u ∷ us) c w y (Form.captures rest) s t m =
+    used_there us c w y rest (capturing (is_captured c w u.name s.library) u s) t m.1
+
+key_is_new_there : (c : Context) (w : Live) (own : List Text) (v : node.Statement) (n : ℕ) (us : List Use)
+    (f : Form.Form production (ClosureBody (level_up (in_closure c w)) (parameters_live own)) v) (s u t : Point)
+    → Kept c.sizes.functions (c.begun + 1) s.library → Met (Form.demands production f Nothing) (apart s) u
+    → closure_count u.library ≡ n → u.library ≡ t.library
+    → is_new (ended_closure n us own (made_block v)).key t.library ≡ true
+key_is_new_there c w own v n us f s u t h m counted same =
+    let size = c.sizes.functions in
+    let o = (ended size (Begun size) Right production (table size) (Unit {0}) (c.begun + 1) u
+    (ordered size (Begun size) Right production (table size) f (c.begun + 1) Nothing (apart s) u (refl, refl) h m)).1 in
+    let k : Kept size (c.begun + 1) t.library = subst (Kept size (c.begun + 1)) same o in
+    key_is_new t.library (ended_closure n us own (made_block v)).key k.0.numbered
+    (few_closures size c.begun t.library k)
+    (ap closure_name (sym counted ∙ ap closure_count same))
+
+pub libraries_stay_orderly : LibrariesStayOrderly
+libraries_stay_orderly = record {
+  empty = λ limit. record { numbered = empty; keys = tt; within = omega arith };
+  expression = λ c w. keeps_order c (R.Whole c w) (refl, refl);
+  script = λ c w. keeps_order c (R.Script c w) (refl, refl);
+  closure_key = λ c w own v n us f h x y rest s t bound o m.
+      key_is_new_there c w own v n us f s m.0 t (o, bound) m.1 m.2.0
+      (used_there us c w y rest (with_captured s.captured m.0) t m.3);
+}

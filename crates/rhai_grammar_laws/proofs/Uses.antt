@@ -1,0 +1,147 @@
+-- The functions of a form read the names that they use: the table of productions, and the law.
+use Rattle.std.proofs.Common.{◌≡◌, ◌∙◌, true, List, [], ◌∷◌, ◌++◌, refl, sym, ap, append_assoc}
+use Rattle.rhai_lower.specs.Nodes as node
+use Rattle.rhai_grammar.specs.Prelude.{Lexeme, Node, Nothing, Position, Text, block_value, braces, calls}
+use Rattle.rhai_grammar.specs.Prelude.{has_single_blocks, is_name, is_variable, qualified, qualifies, text_of}
+use Rattle.rhai_grammar.specs.Prelude.{with_node}
+use Rattle.rhai_grammar.specs.Trees.{method_called, node_count}
+use Rattle.rhai_grammar.specs.declared.list.CommaList.TheVariants as lists
+use Rattle.rhai_grammar_reading.specs.Reading as R
+use Rattle.rhai_grammar_reading.specs.Reading.{Goal, Script, Val}
+use Rattle.rhai_grammar.specs.Rules.{production}
+use Rattle.rhai_grammar.specs.Mentions.{is_read}
+use Rattle.rhai_grammar_laws.proofs.Constructs.{uses_of_construct}
+use Rattle.rhai_grammar_laws.proofs.TreeMentions.{all_mentions, body_mentions, mentions, statements_mentions}
+use Rattle.rhai_grammar_laws.proofs.TreeMentions.{whole_block}
+use Rattle.rhai_grammar_laws.specs.UseLaws.{AllReadTheirUses, FunctionsReadTheirUses}
+use Rattle.rhai_grammar_laws.specs.WrittenFunctions.{WrittenFunction, functions_in}
+use Rattle.rhai_grammar_laws.proofs.MentionArms.{faultless, literals}
+use Rattle.rhai_grammar.proofs.MentionLemmas.{More, Only, after, both, call_before, none, on, same, silent, still}
+use Rattle.rhai_grammar.proofs.MentionLemmas.{unchanged}
+use Rattle.rhai_grammar_laws.proofs.MentionTrees.{made, one_node, text, with_path}
+use Rattle.rhai_grammar_laws.proofs.NumbersOfOperands.{is_true_of}
+use Rattle.rhai_grammar_laws.proofs.Passing.{leaves_its}
+use Rattle.rhai_grammar_laws.proofs.Using as U
+use Rattle.rhai_grammar_laws.proofs.Using.{Keeps}
+use Rattle.rhai_grammar_laws.proofs.UsesOfOperands.{Good, Right, binary, by_either, call_of, call_path, called, element}
+use Rattle.rhai_grammar_laws.proofs.UsesOfOperands.{field, follower, key, links, operand, parted, path_excludes}
+use Rattle.rhai_grammar_laws.proofs.UsesOfOperands.{primary}
+use Rattle.rhai_grammar_laws.proofs.UsesOfOperands.{right}
+use Rattle.rhai_grammar_laws.proofs.UsesOfStatements.{action, arm_end, arms, closure_by, default_end, do_end}
+use Rattle.rhai_grammar_laws.proofs.UsesOfStatements.{export, inside, parameter, parameters, statement, statements}
+
+still_variable : (imports : List Text) (x : Node) (t : Text) (p : Position) → is_variable x ≡ true
+    → is_variable (qualified imports x t p) ≡ true
+still_variable imports (node.variable v q) t p e = refl
+still_variable imports _ t p e = absurd cc
+
+pub table : (g : Goal) (n : Lexeme) → Keeps Right Good g (λ x next us. Right g x n next us) (production g) n [] []
+unfolding mentions
+table (R.Whole c w) n = λ x m us h. (λ e. h, λ e. tt)
+table (R.Expression c w) n = λ at room x m us h y o vs k. on h k
+table (R.Operand c w) n = λ v e. operand c w v n
+table (R.RightOperand c w place) n = λ v e. right c w place v n
+table (R.Primary c w) n = λ v e. primary c w v n
+table (R.Called c w at q) n = λ v e. called c w at q v n
+table (R.Path w x) n = λ at m is p o. (
+  λ e y q us h. (h.0, λ v. h.1 (still_variable w.imports x (text_of m) p v)),
+  λ e. (none, λ v. with_path w.imports x (text_of m) p v),
+)
+table (R.Links w spot) n = λ v e. links w spot v n
+table (R.Index c w indexed) n = λ x m us h fault is p o. h
+table (R.Member c w) n = λ at m. (
+  λ e call o us h. call_before (method_called (text_of n) call.0 (node_count call.1)) h,
+  λ e. by_either (R.Member c w) (λ x next us. Only (mentions x) us) (is_name n) _ _ m [] []
+      (λ q. tt, λ q. none) (λ e. absurd cc),
+)
+table (R.Postfix c w x) n = (
+  λ e y m us h.
+      call_path c w x y n m us (path_excludes (is_variable x) (calls n) (qualifies n) e) h.0
+      (h.1 (is_true_of (is_variable x) (qualifies n) e)),
+  λ e. call_of c w x n e,
+)
+table (R.Arguments c w at) n = (λ e. tt, λ e. (λ is p m. none, λ is room xs m us h. h))
+table (R.Items c w before) n = λ x m us h v e.
+    parted (R.Items c w before) (λ xs us. More (all_mentions before) (all_mentions xs) us) lists.Arguments _ _ v m [] us
+    (λ o. (λ is p q. one_node before x h, λ is xs q vs k. on (one_node before x h) k))
+    (λ o. one_node before x h)
+table (R.Elements c w opening before) n = λ v e. element c w opening before v n
+table (R.Fields c w opening before) n = λ v m us u. field c w opening before v m us u
+table (R.Segments c w opening before) n = λ p m vs a room fs o us h t q ts u.
+    let one = on (after a (one_node before (block_value (braces fs p t.0)) h)) (still u) in
+    let more = same (text (with_node before (block_value (braces fs p t.0))) t.1 t.3) one in
+    by_either (R.Segments c w opening before) (λ xs next us. More (all_mentions before) (all_mentions xs) us) t.2
+    _ _ q [] ((vs ++ us) ++ ts) more (λ xs r ws k. on more k)
+table R.TextAfter n = λ closing l at m. none
+table (R.Jump c w at) n = (λ e room x m us h. h, λ e room. none)
+table (R.NextKey c before) n = λ v e. key c before v n
+table (R.NextOperator filter) n = λ v e. follower filter v n
+table (R.BinaryOp c w at parent lhs) n = λ v m us u. binary c w at parent lhs v m us u
+table (R.ExprStatement c w) n = λ x m us h. (λ e at o y q vs k fault. both h k, λ e. h)
+table (R.VarName c w) n = (λ e at m ok. none, λ e. tt)
+table (R.Initializer c w at) n = (λ e p m room x o us h. h, λ e. none)
+table (R.Definition c w at k e) n = λ name m us u x o vs h. after u h
+table (R.Import c w at) n = λ x m us h other o vs u. on h (still u)
+table (R.Export c w at) n = λ v e. export c w at v n
+table R.Alias n = (λ e at m is p o. none, λ e. none)
+table (R.Statement c w) n = λ v e. statement c w v n
+table (R.Statements closing c w before) n = λ v e. statements closing c w before v n
+table R.BlockStart n = λ is at m. none
+table (R.Inside c w) n = inside c w (has_single_blocks c) n
+table (R.Block c w at) n = λ fs m us h b o vs k. on h k
+table (R.BlockEnd at fs) n = λ is p m. unchanged (statements_mentions fs)
+table (R.Construct c w at kind) n = uses_of_construct c w at kind n
+table (R.Braced c w at) n = λ p m us u room b o vs h. after u h
+table (R.Guard c w) n = (λ e. tt, λ e x m us h fault. (λ a. tt, λ a. h))
+table (R.Iterated c w) n = (λ e. tt, λ e x m us h fault. h)
+table (R.Conditional c w at) n = λ x m us h b o vs k e q ts j.
+    same (sym (append_assoc (mentions x) (body_mentions b) (body_mentions e))) (both (both h k) j)
+table (R.Branch c w at) n =
+    (λ e p m. (λ is q o room f r us h. same (made f) h, λ is b o us h. h), λ e. none)
+table R.LoopNames n = (λ e at m is p o c q r j k s ok a b d f g i. none, λ e is at m c p o. none)
+table R.Catch n = λ is at m. (λ e p o j q r k u v. none, λ e. none)
+table R.DoEnd n = λ v e. do_end v n
+table (R.Arms c w before) n = λ v e. arms c w before v n
+table (R.Arm c w before) n = λ xs m us h guard o vs k is p q does r ts j fault end z ws a.
+    let e = faultless before xs fault in
+    (e, on (both (after (silent h (literals xs e)) k) j) (still a))
+table (R.DefaultArm c w default) n = (
+  λ e. tt,
+  λ e is p m x o us h u q vs a v r ts b. on (on h (still a)) (still b),
+)
+table (R.Cases c w before) n = λ x m us h. (
+  λ e p o xs q vs k. on (one_node before x h) k,
+  λ e. one_node before x h,
+)
+table (R.Case c w) n = λ x m us h. h
+table (R.CaseGuard c w) n = (λ e p m x o us h. h, λ e. none)
+table (R.Action c w) n = action c w (has_single_blocks c) n
+table (R.ArmEnd itself) n = λ v e. arm_end itself v n
+table (R.DefaultEnd default) n = λ v e. default_end default v n
+table (R.Comments before) n = (λ e p m r o us u. u, λ e. none)
+table (R.FunctionStatement c w comments p at is_private) n = λ ok room f m us h. (h, none)
+table (R.Function c comments at is_private) n = λ head m us u ns o vs v. (
+  λ e p q room b r ts h. after (on u (still v)) h,
+  λ e. tt,
+)
+table R.FunctionHead n = λ is at m. (
+  λ e p o i q r k. none,
+  λ e. by_either R.FunctionHead (λ x next us. Only [] us) (is_name n) _ _ m [] [] (λ k. none) tt,
+)
+table (R.ParameterList f) n = λ v e. parameters f v n
+table (R.Parameters parts f before) n = λ v e. parameter parts f before v n
+table (R.Closure c w at by) n = closure_by c w at by by n
+table (R.ClosureBody c w) n = (λ e at. none, λ e f m us h. h)
+
+-- ---- the law
+
+all_read : (ws : List WrittenFunction) → U.AllGood Right Good ws → AllReadTheirUses ws
+all_read [] h = tt
+all_read (w ∷ ws) h = (λ name. ap (is_read name) (whole_block w.ended.function.body) ∙ h.0.is name, all_read ws h.1)
+
+pub functions_read_their_uses : FunctionsReadTheirUses
+functions_read_their_uses = record {
+  functions = λ c w x f s t m.
+      (leaves_its production (Script c w) x f s t m).library ∙ ap (λ xs. s.library ++ xs) (U.functions_end f);
+  uses = λ c w x f s t m. all_read (functions_in production f) (U.right Right Good table f Nothing s t m).all;
+}

@@ -1,3 +1,0 @@
-pub mod ErrorLemmas
-pub mod MapKeyLemmas
-pub mod OperatorLemmas

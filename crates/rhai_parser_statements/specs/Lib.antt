@@ -1,0 +1,4 @@
+pub mod RareStatements
+pub mod Frames
+pub mod Switches
+pub mod Readers

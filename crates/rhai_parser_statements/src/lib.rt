@@ -1,0 +1,12 @@
+//! Readers of statements: definitions, jumps, functions, and constructs that have a keyword: conditions, loops, `try`,
+//! and `switch`.
+#![tactic(auto)]
+
+mod blocks;
+mod construct;
+mod function;
+mod reader;
+mod stmt;
+mod switch;
+
+pub use reader::Reader;

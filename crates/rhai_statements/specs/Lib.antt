@@ -1,2 +1,0 @@
-pub mod RareStatements
-pub mod Readers

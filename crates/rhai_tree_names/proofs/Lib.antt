@@ -1,4 +1,0 @@
-pub mod BoolLemmas
-pub mod NameLemmas
-pub mod NotedLemmas
-pub mod SetLemmas

@@ -1,2 +1,0 @@
-pub mod FnNames
-pub mod Noted
