@@ -19,7 +19,7 @@ use Rattle.rhai_grammar.specs.declared.error.ParseError.{ParseError}
 use Rattle.rhai_grammar.specs.declared.error.ParseErrorType.{ParseErrorType}
 use Rattle.rhai_grammar.specs.declared.error.ParseErrorType.TheVariants as error
 use Rattle.rhai_tokenizer.specs.Pieces.{Word}
-use Rattle.rhai_tokenizer.specs.Readings.{Item, item_of, span}
+use Rattle.rhai_tokenizer.specs.Readings.{ReadEntry, item_of, span}
 use Rattle.rhai_tokenizer.specs.Symbols.{keywords, reserved_words}
 use Rattle.rhai_tokenizer.specs.declared.limits.Limits.{Limits}
 use Rattle.rhai_tokenizer.specs.declared.tokens.Span.{Span}
@@ -76,7 +76,7 @@ tokens_of_none limits reply tells =
 abbrev first_entry : Token → Bool → Entry
 first_entry k b = record { token = k; pos = place 1 1; text = b }
 
-one_entry : (es : List Entry) (i : Item) → map item_of es ≡ i ∷ [] → i.at ≡ place 1 1
+one_entry : (es : List Entry) (i : ReadEntry) → map item_of es ≡ i ∷ [] → i.at ≡ place 1 1
     → (k : Token) × (b : Bool) × (es ≡ first_entry k b ∷ []) × (lexeme k ≡ i.token)
 one_entry [] i h at = absurd cc
 one_entry (e ∷ []) i h at =
@@ -84,8 +84,8 @@ one_entry (e ∷ []) i h at =
       e.token,
       e.text,
       ap (λ (p : Position). record { token = e.token; pos = p; text = e.text } ∷ [])
-          (ap (λ (j : Item). j.at) same ∙ at),
-      ap (λ (j : Item). j.token) same,
+          (ap (λ (j : ReadEntry). j.at) same ∙ at),
+      ap (λ (j : ReadEntry). j.token) same,
     )
 one_entry (e ∷ d ∷ es) i h at = absurd cc
 

@@ -7,7 +7,7 @@ use Rattle.rhai_lower.specs.Texts.{Text}
 use Rattle.rhai_lower.specs.declared.ast.AST.{AST}
 use Rattle.rhai_grammar.specs.Causes.{is_for_memory}
 use Rattle.rhai_grammar.specs.declared.error.ParseError.{ParseError}
-use Rattle.rhai_tokenizer.specs.Readings.{Reads}
+use Rattle.rhai_tokenizer.specs.Readings.{IsCutInto}
 use Rattle.rhai_tokenizer.specs.declared.limits.Limits.{Limits}
 use Rattle.rhai_tokenizer.specs.declared.tokens.Tokens.{Tokens}
 use Rattle.rhai_trees.specs.FnNames.{AreNamesOf}
@@ -43,13 +43,13 @@ pub tells_names : (functions : List Function) (reply : Text) (names : List FnNam
 tells_names functions reply names needed printed = record { names = names; needed = needed; printed = printed }
 
 -- the tokens of a text, as they are printed
-pub tells_tokens : (limits : Limits) (text reply : Text) (tokens : Tokens) → Reads text limits tokens
+pub tells_tokens : (limits : Limits) (text reply : Text) (tokens : Tokens) → IsCutInto text limits tokens
     → reply ≡ print (token_list 0 tokens) → TellsTokens limits text reply
 tells_tokens limits text reply tokens reads printed = record { tokens = tokens; reads = reads; printed = printed }
 
 -- the report on an error, as it is printed
 pub tells_refusal : (limits : Limits) (text reply : Text) (error : ParseError) (tokens : Tokens) (source : Source)
-    (outside : Outside) (index : ℕ) (report : Report) → Reads text limits tokens
+    (outside : Outside) (index : ℕ) (report : Report) → IsCutInto text limits tokens
     → (source.name.now ≡ []) × (source.text.now ≡ text) × (source.start ≡ 0)
     → (outside.variables.now ≡ []) × (outside.modules.now ≡ []) → index ≡ first_at error.1 tokens.entries.items
     → reports.Tells source tokens index outside error report → reply ≡ print (report_value report [])

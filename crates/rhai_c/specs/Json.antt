@@ -4,7 +4,7 @@ use Rattle.json.specs.Print.{print, print_from}
 use Rattle.rhai_lower.specs.Nodes.{Function}
 use Rattle.rhai_lower.specs.Texts.{Text}
 use Rattle.rhai_grammar.specs.declared.error.ParseError.{ParseError}
-use Rattle.rhai_tokenizer.specs.Readings.{Reads}
+use Rattle.rhai_tokenizer.specs.Readings.{IsCutInto}
 use Rattle.rhai_tokenizer.specs.declared.limits.Limits.{Limits}
 use Rattle.rhai_tokenizer.specs.declared.tokens.Tokens.{Tokens}
 use Rattle.rhai_trees.specs.FnNames.{AreNamesOf}
@@ -28,14 +28,14 @@ pub record TellsNames (functions : List Function) (reply : Text) : Type 0 where
 -- the tokens of a text under these limits; their bytes count from its start
 pub record TellsTokens (limits : Limits) (text reply : Text) : Type 0 where
   pub tokens : Tokens
-  pub reads : Reads text limits tokens
+  pub reads : IsCutInto text limits tokens
   pub printed : reply ≡ print (token_list 0 tokens)
 
 -- The report on an error in a text, which has no file name and knows no names from outside. It is about the first token
 -- at the error's position, or the end.
 pub record TellsRefusal (limits : Limits) (text : Text) (error : ParseError) (reply : Text) : Type 0 where
   pub tokens : Tokens
-  pub reads : Reads text limits tokens
+  pub reads : IsCutInto text limits tokens
   pub source : Source
   pub whole : (source.name.now ≡ []) × (source.text.now ≡ text) × (source.start ≡ 0)
   pub outside : Outside

@@ -14,17 +14,17 @@ new_last before (y ∷ library) x h e =
     (h.0, new_last (before ++ y ∷ []) library x h.1 (ap (is_new x.key) (append_assoc before (y ∷ []) library) ∙ e))
 
 -- a library is orderly, and its limit is a number of at most 64 bits
-abbrev pub Kept : (limit begun : ℕ) → Library → Type 0
-Kept limit begun l = IsOrderly limit begun l × (limit ≤ 2 ^ 64)
+abbrev pub KeptWithin : (limit begun : ℕ) → Library → Type 0
+KeptWithin limit begun l = IsOrderly limit begun l × (limit ≤ 2 ^ 64)
 
 -- While one more has begun, the closures can be numbered.
-pub few_closures : (limit begun : ℕ) (l : Library) → Kept limit (begun + 1) l → closure_count l < 2 ^ 64
+pub few_closures : (limit begun : ℕ) (l : Library) → KeptWithin limit (begun + 1) l → closure_count l < 2 ^ 64
 few_closures limit begun l (h, bound) =
     omega (arith, h.within, bound, count_by-le-length is_closure (keys_in l), length-map l (λ (x : Ended). x.key))
 
 -- one begins where there is room for it
-pub one_begins : (limit begun : ℕ) (l : Library) → nat_lt (length l + begun) limit ≡ true → Kept limit begun l
-    → Kept limit (begun + 1) l
+pub one_begins : (limit begun : ℕ) (l : Library) → nat_lt (length l + begun) limit ≡ true → KeptWithin limit begun l
+    → KeptWithin limit (begun + 1) l
 one_begins limit begun l e (h, bound) = (
   record {
     numbered = h.numbered;
@@ -35,13 +35,13 @@ one_begins limit begun l e (h, bound) = (
 )
 
 -- one that had begun is given up
-pub one_stops : (limit begun : ℕ) (l : Library) → Kept limit (begun + 1) l → Kept limit begun l
+pub one_stops : (limit begun : ℕ) (l : Library) → KeptWithin limit (begun + 1) l → KeptWithin limit begun l
 one_stops limit begun l (h, bound) =
     (record { numbered = h.numbered; keys = h.keys; within = omega (arith, h.within) }, bound)
 
 -- one that had begun joins the library
-pub one_ends : (limit begun : ℕ) (l : Library) (x : Ended) → Kept limit (begun + 1) l → is_new x.key l ≡ true
-    → IsNumbered (with_ended l x) → Kept limit begun (with_ended l x)
+pub one_ends : (limit begun : ℕ) (l : Library) (x : Ended) → KeptWithin limit (begun + 1) l → is_new x.key l ≡ true
+    → IsNumbered (with_ended l x) → KeptWithin limit begun (with_ended l x)
 one_ends limit begun l x (h, bound) new numbered = (
   record {
     numbered = numbered;

@@ -6,11 +6,11 @@ use Rattle.std.proofs.lemmas.List.Folds.{list_any-append}
 use Rattle.rhai_lower.specs.Nodes.{Called}
 use Rattle.rhai_grammar.specs.Prelude.{Text, is_among, same_text}
 use Rattle.rhai_grammar.specs.TreeNumbers.{has_path}
-use Rattle.rhai_grammar.specs.Mentions.{Calls, Mention, Reads, by_call, by_count, is_called, is_read}
+use Rattle.rhai_grammar.specs.Mentions.{Calls, Mention, Variable, by_call, by_count, is_called, is_read}
 
 pub read_append : (name : Text) (a b : List Mention) → is_read name (a ++ b) ≡ (is_read name a || is_read name b)
 read_append name [] b = refl
-read_append name (Reads n ∷ a) b =
+read_append name (Variable n ∷ a) b =
     ap (λ r. same_text n name || r) (read_append name a b)
     ∙ sym (or_assoc (same_text n name) (is_read name a) (is_read name b))
 read_append name (Calls n c ∷ a) b = read_append name a b
@@ -18,7 +18,7 @@ read_append name (Calls n c ∷ a) b = read_append name a b
 pub called_append : (name : Text) (count : ℕ) (a b : List Mention)
     → is_called name count (a ++ b) ≡ (is_called name count a || is_called name count b)
 called_append name count [] b = refl
-called_append name count (Reads n ∷ a) b = called_append name count a b
+called_append name count (Variable n ∷ a) b = called_append name count a b
 called_append name count (Calls n c ∷ a) b =
     let one = same_text n name && (c == count) in
     ap (λ r. one || r) (called_append name count a b)

@@ -8,7 +8,7 @@ use Rattle.rhai_grammar.specs.Prelude.{Bracket, Chain, Dotted, Link, LinkKind, c
 use Rattle.rhai_grammar.specs.Prelude.{nest, captured_nodes, closure_node, shared_names, Live}
 use Rattle.rhai_grammar.specs.Prelude.{loop_live}
 use Rattle.rhai_grammar.specs.Prelude.{reused}
-use Rattle.rhai_grammar.specs.Prelude.{joined, joined_tree, part}
+use Rattle.rhai_grammar.specs.Prelude.{joined, joined_tree, part_of_list}
 use Rattle.rhai_grammar.specs.Prelude.{affected, number, Collected, with_arm_collected, with_case, with_cases}
 use Rattle.rhai_grammar.specs.Prelude.{with_default_collected, with_value, same_value, AllWellNumbered, WellNumbered}
 use Rattle.rhai_grammar.specs.Prelude.{WellNumberedBlock, WellNumberedStatement, names_in}
@@ -131,7 +131,7 @@ join : (ns : List Text) (a b : Nodes) → AllWellNumbered ns a → AllWellNumber
 join ns node.no_nodes b h k = k
 join ns (node.one_node n a) b h k = (h.0, join ns a b h.1 k)
 
-items : (ns : List Text) (k : ListKind) (n : Node) → WellNumbered ns n → AllWellNumbered ns (O.items (part k n))
+items : (ns : List Text) (k : ListKind) (n : Node) → WellNumbered ns n → AllWellNumbered ns (O.items (part_of_list k n))
 items ns lists.And (node.conjunction xs p) h = h
 items ns lists.Or (node.disjunction xs p) h = h
 items ns lists.Coalesce (node.coalescing xs p) h = h
@@ -145,8 +145,8 @@ list ns lists.Coalesce xs p h = h
 pub operator : (ns : List Text) (j : Joining) (op : Lexeme) (p : Position) (a b : Node) → WellNumbered ns a → WellNumbered ns b
     → WellNumbered ns (joined_tree j op p a b)
 operator ns (joins.List k) op p a b h i =
-    list ns k (joined (O.items (part k a)) (O.items (part k b))) (O.list_position p (part k a))
-    (join ns (O.items (part k a)) (O.items (part k b)) (items ns k a h) (items ns k b i))
+    list ns k (joined (O.items (part_of_list k a)) (O.items (part_of_list k b))) (O.list_position p (part_of_list k a))
+    (join ns (O.items (part_of_list k a)) (O.items (part_of_list k b)) (items ns k a h) (items ns k b i))
 operator ns joins.Membership op p a b h i = (i, (h, tt))
 operator ns joins.NoMembership op p a b h i = ((i, (h, tt)), tt)
 operator ns joins.Call op p a b h i = (h, (i, tt))

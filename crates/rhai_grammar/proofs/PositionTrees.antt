@@ -9,14 +9,14 @@ use Rattle.rhai_grammar.specs.Prelude.{Bracket, Chain, Collected, Context, Dotte
 use Rattle.rhai_grammar.specs.Prelude.{Live, Node, Nodes, Part, Position, Refusal, Text, Use, affected, arm_fault}
 use Rattle.rhai_grammar.specs.Prelude.{chain_of, chained, closure_node, guard_fault, index_refusal, is_last}
 use Rattle.rhai_grammar.specs.Prelude.{iterated_fault, joined, joined_tree, last_fault, link_node}
-use Rattle.rhai_grammar.specs.Prelude.{module_fault, nest, part, target_fault, value_of}
+use Rattle.rhai_grammar.specs.Prelude.{module_fault, nest, part_of_list, target_fault, value_of}
 use Rattle.rhai_grammar.specs.Prelude.{with_case}
 use Rattle.rhai_grammar.specs.Causes as cause
 use Rattle.rhai_grammar.specs.Chains.{link_fault}
 use Rattle.rhai_grammar.specs.Constructs.{type_fault}
 use Rattle.rhai_grammar.specs.Kinds as K
 use Rattle.rhai_grammar.specs.Modules.{path_fault}
-use Rattle.rhai_grammar.specs.Operators.{Item, Items, items, list_position, list_tree}
+use Rattle.rhai_grammar.specs.Operators.{Single, Items, items, list_position, list_tree}
 use Rattle.rhai_grammar.specs.Switches.{case_fault, fault_from}
 use Rattle.rhai_grammar.specs.Targets as A
 use Rattle.rhai_grammar.specs.declared.role.Effect.{Effect}
@@ -138,9 +138,9 @@ module _ (G : Position → Type 0) where
 
   abbrev IsPart : Part → Type 0
   IsPart (Items ns p) = G p × G (first_start ns p)
-  IsPart (Item n) = G (start_of n)
+  IsPart (Single n) = G (start_of n)
 
-  is_part : (k : ListKind) (n : Node) → Placed n → IsPart (part k n)
+  is_part : (k : ListKind) (n : Node) → Placed n → IsPart (part_of_list k n)
   is_part lists.And (node.conjunction xs p) h = h
   is_part lists.Or (node.disjunction xs p) h = h
   is_part lists.Coalesce (node.coalescing xs p) h = h
@@ -148,14 +148,14 @@ module _ (G : Position → Type 0) where
 
   first : (a b : Part) (at : Position) → G at → IsPart a → IsPart b
       → G (first_start (joined (items a) (items b)) (list_position at a))
-  first (Item n) b at g h k = h
+  first (Single n) b at g h k = h
   first (Items (node.one_node n ns) p) b at g h k = h.1
-  first (Items node.no_nodes p) (Item n) at g h k = k
+  first (Items node.no_nodes p) (Single n) at g h k = k
   first (Items node.no_nodes p) (Items (node.one_node n ns) q) at g h k = k.1
   first (Items node.no_nodes p) (Items node.no_nodes q) at g h k = h.0
 
   at_list : (a : Part) (at : Position) → G at → IsPart a → G (list_position at a)
-  at_list (Item n) at g h = g
+  at_list (Single n) at g h = g
   at_list (Items ns p) at g h = h.0
 
   is_list : (k : ListKind) (ns : Nodes) (p : Position) → G p → G (first_start ns p) → Placed (list_tree k ns p)
@@ -167,7 +167,7 @@ module _ (G : Position → Type 0) where
       → Placed (joined_tree j op at x y)
   operator (joins.List k) op at x y g h i =
       let a = is_part k x h in
-      is_list k _ _ (at_list (part k x) at g a) (first (part k x) (part k y) at g a (is_part k y i))
+      is_list k _ _ (at_list (part_of_list k x) at g a) (first (part_of_list k x) (part_of_list k y) at g a (is_part k y i))
   operator joins.Membership op at x y g h i = g
   operator joins.NoMembership op at x y g h i = g
   operator joins.Call op at x y g h i = g

@@ -3,7 +3,7 @@ use Rattle.std.proofs.Common.{◌≡◌, Bool, true, false, List, [], ◌∷◌,
 use Rattle.rhai_grammar.specs.Prelude.{Text, nowhere, Lexeme, Sign, Node, Nodes, position_of, Position, value_of}
 use Rattle.rhai_grammar.specs.Prelude.{Bracket, Chain, Dotted, Link, LinkKind, chain_of, chained, is_last, link_node}
 use Rattle.rhai_grammar.specs.Prelude.{nest, Part, joined, joined_tree, list_of_parts}
-use Rattle.rhai_grammar.specs.Prelude.{part, node_shape, nodes_shape, affected, call_tree, method_tree, node_count}
+use Rattle.rhai_grammar.specs.Prelude.{part_of_list, node_shape, nodes_shape, affected, call_tree, method_tree, node_count}
 use Rattle.rhai_lower.specs.Nodes as node
 use Rattle.rhai_lower.specs.declared.token.Token.TheVariants as token
 use Rattle.rhai_grammar.specs.Operators as O
@@ -54,9 +54,9 @@ join (node.one_node n a) b = let e = join a b in cc
 
 abbrev part_shape : Part → Part
 part_shape (O.Items ns p) = O.Items (nodes_shape ns) nowhere
-part_shape (O.Item n) = O.Item (node_shape n)
+part_shape (O.Single n) = O.Single (node_shape n)
 
-operand_part : (k : ListKind) (n : Node) → part k (node_shape n) ≡ part_shape (part k n)
+operand_part : (k : ListKind) (n : Node) → part_of_list k (node_shape n) ≡ part_shape (part_of_list k n)
 operand_part lists.And (node.conjunction ns p) = refl
 operand_part lists.Or (node.disjunction ns p) = refl
 operand_part lists.Coalesce (node.coalescing ns p) = refl
@@ -64,11 +64,11 @@ operand_part _ n = refl
 
 part_items : (a : Part) → O.items (part_shape a) ≡ nodes_shape (O.items a)
 part_items (O.Items ns p) = refl
-part_items (O.Item n) = refl
+part_items (O.Single n) = refl
 
 part_stands : (a : Part) → O.list_position nowhere (part_shape a) ≡ nowhere
 part_stands (O.Items ns p) = refl
-part_stands (O.Item n) = refl
+part_stands (O.Single n) = refl
 
 pub list : (k : ListKind) (ns : Nodes) (p : Position) → node_shape (O.list_tree k ns p) ≡ O.list_tree k (nodes_shape ns) nowhere
 list lists.And ns p = refl
@@ -86,9 +86,9 @@ parts k p a b =
 
 pub join_tree : (j : Joining) (op : Lexeme) (p : Position) (a b : Node) → node_shape (joined_tree j op p a b) ≡ joined_tree j op nowhere (node_shape a) (node_shape b)
 join_tree (joins.List k) op p a b =
-    parts k p (part k a) (part k b)
-    ∙ ap (λ x. list_of_parts k nowhere x (part_shape (part k b))) (sym (operand_part k a))
-    ∙ ap (λ x. list_of_parts k nowhere (part k (node_shape a)) x) (sym (operand_part k b))
+    parts k p (part_of_list k a) (part_of_list k b)
+    ∙ ap (λ x. list_of_parts k nowhere x (part_shape (part_of_list k b))) (sym (operand_part k a))
+    ∙ ap (λ x. list_of_parts k nowhere (part_of_list k (node_shape a)) x) (sym (operand_part k b))
 join_tree joins.Membership op p a b = refl
 join_tree joins.NoMembership op p a b = refl
 join_tree joins.Call op p a b = refl

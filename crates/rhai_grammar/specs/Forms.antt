@@ -15,7 +15,7 @@ use Rattle.rhai_grammar.specs.Beginnings.{unexpected}
 use Rattle.rhai_grammar.specs.Verdicts.{anything}
 use Rattle.rhai_grammar.specs.declared.due.DueToken.TheVariants.{RightBrace}
 use Rattle.rhai_grammar.specs.Goals.{Goal, Val, is_counted}
-use Rattle.rhai_grammar.specs.Productions.{Production, View, Seen, view}
+use Rattle.rhai_grammar.specs.Productions.{Production, View, SeenBy, view}
 use Rattle.rhai_lower.specs.declared.token.Token.TheVariants as token
 use Rattle.rhai_grammar.specs.Productions as S
 
@@ -76,7 +76,7 @@ module _ (rule : (g : Goal) → Production (Val g)) where
       if_not : {h : Goal} {t : Lexeme → Bool} {p q : Production (Val h)} {r : Option (Val h)} → FilledIn h q r
           → FilledIn h (S.if_next t p q) r
       -- the token that comes next is named, and is not one of the form's
-      choose : {h : Goal} {v : View} {k : Seen v → Production (Val h)} {r : Option (Val h)} (l : Lexeme) (at : Position)
+      choose : {h : Goal} {v : View} {k : SeenBy v → Production (Val h)} {r : Option (Val h)} (l : Lexeme) (at : Position)
           → FilledIn h (k (view v l)) r → FilledIn h (S.choose v k) r
       here : {h : Goal} {k : Position → Production (Val h)} {r : Option (Val h)} (l : Lexeme) (at : Position)
           → FilledIn h (k at) r → FilledIn h (S.here k) r

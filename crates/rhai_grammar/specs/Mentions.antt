@@ -13,12 +13,12 @@ use Rattle.rhai_grammar.specs.TreeNumbers.{has_path}
 
 pub data Mention : Type 0 where
   -- a variable of this name that has neither a number nor a path
-  Reads : Text → Mention
+  Variable : Text → Mention
   -- a call without a path, for a function of a script with so many parameters
   Calls : Text → (count : ℕ) → Mention
 
 abbrev pub by_variable : Named → List Mention
-by_variable v = if is_some v.number || has_path v.path then [] else Reads v.name ∷ []
+by_variable v = if is_some v.number || has_path v.path then [] else Variable v.name ∷ []
 
 abbrev pub by_count : Text → Option ℕ → List Mention
 by_count name None = []
@@ -45,13 +45,13 @@ block_mentions b = walk_mentions (walk_of 0 (block b))
 -- a variable of this name is among these
 abbrev pub is_read : Text → List Mention → Bool
 is_read name [] = false
-is_read name (Reads n ∷ more) = same_text n name || is_read name more
+is_read name (Variable n ∷ more) = same_text n name || is_read name more
 is_read name (Calls n count ∷ more) = is_read name more
 
 -- a call of this name with so many arguments is among these
 abbrev pub is_called : Text → (count : ℕ) → List Mention → Bool
 is_called name count [] = false
-is_called name count (Reads n ∷ more) = is_called name count more
+is_called name count (Variable n ∷ more) = is_called name count more
 is_called name count (Calls n c ∷ more) = same_text n name && (c == count) || is_called name count more
 
 -- ---- an example
@@ -91,7 +91,7 @@ example_try =
 abbrev example_mentions : Statement → List Mention
 example_mentions f = walk_mentions (walk_of 0 (statement f))
 
-example : (example_mentions example_assigned ≡ Reads (codes "y") ∷ Calls (codes "g") 1 ∷ Reads (codes "z") ∷ [])
+example : (example_mentions example_assigned ≡ Variable (codes "y") ∷ Calls (codes "g") 1 ∷ Variable (codes "z") ∷ [])
     × (example_mentions example_try ≡ [])
     × (is_read (codes "z") (example_mentions example_assigned) ≡ true)
     × (is_read (codes "x") (example_mentions example_assigned) ≡ false)

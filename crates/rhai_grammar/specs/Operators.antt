@@ -65,36 +65,36 @@ list_tree lists.Coalesce ns at = coalescing ns at
 -- an operand of such an operator: a list of the same kind, or one item
 pub data Part : Type 0 where
   Items : Nodes → Position → Part
-  Item : Node → Part
+  Single : Node → Part
 
--- an operand, as part of a list of this kind
-abbrev pub part : ListKind → Node → Part
-part lists.And (conjunction ns p) = Items ns p
-part lists.Or (disjunction ns p) = Items ns p
-part lists.Coalesce (coalescing ns p) = Items ns p
-part kind n = Item n
+-- an operand, as part_of_list of a list of this kind
+abbrev pub part_of_list : ListKind → Node → Part
+part_of_list lists.And (conjunction ns p) = Items ns p
+part_of_list lists.Or (disjunction ns p) = Items ns p
+part_of_list lists.Coalesce (coalescing ns p) = Items ns p
+part_of_list kind n = Single n
 
 -- the items of one list, then those of another
 abbrev pub joined : Nodes → Nodes → Nodes
 joined no_nodes ms = ms
 joined (one_node n ns) ms = one_node n (joined ns ms)
 
--- the items that a part adds to a list
+-- the items that a part_of_list adds to a list
 abbrev pub items : Part → Nodes
 items (Items ns p) = ns
-items (Item n) = one_node n no_nodes
+items (Single n) = one_node n no_nodes
 
 -- If the left operand is a list, the result keeps its position; otherwise it has the operator's position.
 abbrev pub list_position : Position → Part → Position
 list_position at (Items ns p) = p
-list_position at (Item n) = at
+list_position at (Single n) = at
 
 abbrev pub list_of_parts : ListKind → Position → Part → Part → Node
 list_of_parts kind at left right = list_tree kind (joined (items left) (items right)) (list_position at left)
 
 -- the list of two operands
 abbrev pub list_of : ListKind → Position → Node → Node → Node
-list_of kind at left right = list_of_parts kind at (part kind left) (part kind right)
+list_of kind at left right = list_of_parts kind at (part_of_list kind left) (part_of_list kind right)
 
 -- ---- all operators
 

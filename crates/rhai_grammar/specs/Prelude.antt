@@ -48,7 +48,7 @@ pub use Rattle.rhai_grammar.specs.Modules.{captures_use, is_captured, is_qualifi
 pub use Rattle.rhai_grammar.specs.Modules.{module_fault, qualified}
 pub use Rattle.rhai_grammar.specs.NumberedLibraries.{AreNew, IsNumbered, IsOrderly}
 pub use Rattle.rhai_grammar.specs.Operators.{Part, boolean_holds, joined, joined_tree, joining, list_of_parts}
-pub use Rattle.rhai_grammar.specs.Operators.{mismatched, operator_tree, part}
+pub use Rattle.rhai_grammar.specs.Operators.{mismatched, operator_tree, part_of_list}
 pub use Rattle.rhai_grammar.specs.Promises.{EndsIn, IsWritten}
 pub use Rattle.rhai_grammar.specs.Seen.{BeginsWith, Gives, Readable, StandsAtLast, TakenIn, is_at_last, latest_first}
 pub use Rattle.rhai_grammar.specs.Seen.{leads}

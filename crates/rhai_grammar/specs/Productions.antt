@@ -14,7 +14,7 @@ use Rattle.rhai_grammar.specs.Statements.{no_variable}
 use Rattle.rhai_grammar.specs.declared.due.DueToken.{DueToken}
 use Rattle.rhai_grammar.specs.Goals.{Goal, Val, is_counted}
 use Rattle.rhai_grammar.specs.Causes as cause
-pub use Rattle.rhai_grammar.specs.Views.{View, Seen, view, StartOf, PlaceIn, EndIn, EndOfDo, PartOf, Begins}
+pub use Rattle.rhai_grammar.specs.Views.{View, SeenBy, view, StartOf, PlaceIn, EndIn, EndOfDo, PartOf, Begins}
 pub use Rattle.rhai_grammar.specs.Views.{OperandAt, Calls, Links, ItemAt, KeyAt, FollowerIn, Defined, ArmAt}
 pub use Rattle.rhai_grammar.specs.Views.{ParameterAt, MemberAt}
 
@@ -29,7 +29,7 @@ pub data Production (A : Type 0) : Type 0 where
   -- the next token, whatever it is
   this : (Lexeme → Position → Production A) → Production A
   -- the next token decides how it goes on
-  choose : (v : View) → (Seen v → Production A) → Production A
+  choose : (v : View) → (SeenBy v → Production A) → Production A
   if_next : (is : Lexeme → Bool) (so otherwise : Production A) → Production A
   -- the position of the next token is known
   here : (Position → Production A) → Production A

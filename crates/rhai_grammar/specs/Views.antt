@@ -69,26 +69,26 @@ pub data View : Type 0 where
   MemberAt : View
 
 -- the answers to that
-abbrev pub Seen : View → Type 0
-Seen (StartOf context) = StatementStart
-Seen (PlaceIn closing) = StatementRole
-Seen (EndIn closing) = AfterStatement
-Seen EndOfDo = Option Bool
-Seen (PartOf parts) = AfterPart
-Seen Begins = Beginning
-Seen (OperandAt place) = OperandStart
-Seen Calls = Calling
-Seen Links = Linking
-Seen (ItemAt limit count) = ItemRole
-Seen (KeyAt settings before) = KeyRole
-Seen (FollowerIn filter) = Follower
-Seen Defined = Option Bool
-Seen ArmAt = ArmRole
-Seen (ParameterAt parts) = ItemRole
-Seen MemberAt = MemberRole
+abbrev pub SeenBy : View → Type 0
+SeenBy (StartOf context) = StatementStart
+SeenBy (PlaceIn closing) = StatementRole
+SeenBy (EndIn closing) = AfterStatement
+SeenBy EndOfDo = Option Bool
+SeenBy (PartOf parts) = AfterPart
+SeenBy Begins = Beginning
+SeenBy (OperandAt place) = OperandStart
+SeenBy Calls = Calling
+SeenBy Links = Linking
+SeenBy (ItemAt limit count) = ItemRole
+SeenBy (KeyAt settings before) = KeyRole
+SeenBy (FollowerIn filter) = Follower
+SeenBy Defined = Option Bool
+SeenBy ArmAt = ArmRole
+SeenBy (ParameterAt parts) = ItemRole
+SeenBy MemberAt = MemberRole
 
 -- the answer for a token
-abbrev pub view : (v : View) → Lexeme → Seen v
+abbrev pub view : (v : View) → Lexeme → SeenBy v
 view (StartOf context) = statement_start context
 view (PlaceIn closing) = statement_role closing
 view (EndIn closing) = token_after_statement closing

@@ -101,33 +101,33 @@ joined_all x (l ∷ ls) b hs = joined_more x [] l ls b hs.0 hs.1
 
 -- ---- the links of forms
 
-abbrev Right : (g : Goal) → Val g → Type 0
-Right (R.Links w spot) ls = MayEnd spot.before → MayEnd ls
-Right (R.Member c w) x = (chain_of x).links ≡ []
-Right _ x = Unit {0}
+abbrev LinksRight : (g : Goal) → Val g → Type 0
+LinksRight (R.Links w spot) ls = MayEnd spot.before → MayEnd ls
+LinksRight (R.Member c w) x = (chain_of x).links ≡ []
+LinksRight _ x = Unit {0}
 
 link_added : (ls : List Link) (l : Link) → MayEnd ls → MayBeLast l → MayEnd (ls ++ l ∷ [])
 link_added [] l h k = (k, tt)
 link_added (m ∷ ls) l h k = (h.0, link_added ls l h.1 k)
 
-by_either : {A : Type 0} (R : A → Type 0) (b : Bool) (p q : Production A) → Always Right R p → Always Right R q
-    → Always Right R (if b then p else q)
+by_either : {A : Type 0} (R : A → Type 0) (b : Bool) (p q : Production A) → Always LinksRight R p → Always LinksRight R q
+    → Always LinksRight R (if b then p else q)
 by_either R true p q g h = g
 by_either R false p q g h = h
 
 dotted : (w : Live) (spot : LinkSpot) (l : Lexeme) (at : Position) (v : MemberRole)
-    → Always Right (λ ls. MayEnd spot.before → MayEnd ls) (P.dotted_by w spot l at v)
+    → Always LinksRight (λ ls. MayEnd spot.before → MayEnd ls) (P.dotted_by w spot l at v)
 dotted w spot l at AMember = λ x h ls k before. k (link_added spot.before (member_link l at x) before (λ e. h))
 dotted w spot l at (NoMember why) = tt
 
-links : (w : Live) (spot : LinkSpot) (v : Linking) → Always Right (λ ls. MayEnd spot.before → MayEnd ls)
+links : (w : Live) (spot : LinkSpot) (v : Linking) → Always LinksRight (λ ls. MayEnd spot.before → MayEnd ls)
     (P.links_by w spot v)
 links w spot lk.Bracket = λ l at x u ls k before. k (link_added spot.before (bracket_link l at x) before (λ e.
     absurd cc))
 links w spot lk.Dot = λ l at v. dotted w spot l at v
 links w spot lk.Nothing = λ before. before
 
-table : (g : Goal) → Always Right (Right g) (production g)
+table : (g : Goal) → Always LinksRight (LinksRight g) (production g)
 table (R.Links w spot) = λ v. links w spot v
 table (R.Member c w) = λ name at. (
   λ call u. refl,
@@ -136,8 +136,8 @@ table (R.Member c w) = λ name at. (
     refl,
   ) tt,
 )
-table g = trivially Right (λ x. Unit {0}) (production g) (λ x. tt)
+table g = trivially LinksRight (λ x. Unit {0}) (production g) (λ x. tt)
 
 pub may_end : {c : Context} {w : Live} {x : Node} {ls : List Link}
     → F.Form production (R.Links w (spot_after_operand c x)) ls → MayEnd ls
-may_end f = always Right production table f tt
+may_end f = always LinksRight production table f tt

@@ -9,7 +9,7 @@ use Rattle.rhai_grammar.specs.Goals.{is_counted}
 use Rattle.rhai_grammar_reading.proofs.Reaches as R
 use Rattle.rhai_grammar_reading.proofs.Reaches.{Reaches}
 use Rattle.rhai_grammar_reading.proofs.Looks.{op_at, pos_at, no_other, or_wrong}
-use Rattle.rhai_grammar.specs.Productions.{Production, View, Seen, view}
+use Rattle.rhai_grammar.specs.Productions.{Production, View, SeenBy, view}
 use Rattle.rhai_grammar.specs.Productions as S
 use Rattle.rhai_grammar.specs.Rules.{production}
 use Rattle.rhai_grammar.specs.Forms as F

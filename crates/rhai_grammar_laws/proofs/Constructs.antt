@@ -8,7 +8,7 @@ use Rattle.rhai_grammar.specs.Prelude.{SlotValue, loop_body, loop_live}
 use Rattle.rhai_grammar.specs.Rules as P
 use Rattle.rhai_grammar.specs.declared.role.Construct.{Construct as Kind}
 use Rattle.rhai_grammar.specs.declared.role.Construct.TheVariants as kind
-use Rattle.rhai_grammar.proofs.LibrarySteps.{Kept}
+use Rattle.rhai_grammar.proofs.LibrarySteps.{KeptWithin}
 use Rattle.rhai_grammar.proofs.NumberSteps as N
 use Rattle.rhai_grammar_reading.specs.Reading as R
 use Rattle.rhai_grammar_laws.specs.Numbered.{Leaves}
@@ -70,7 +70,7 @@ module _ (G : Position → Type 0) where
 -- they keep libraries orderly
 module _ (limit : ℕ) where
   pub order_of_construct : (c : Context) (w : Live) (at : Position) (k : Kind) (b : ℕ) (l : Library) → Fits limit b c
-      → Kept limit b l → OrdersIn limit b (P.construct c w at k) l
+      → KeptWithin limit b l → OrdersIn limit b (P.construct c w at k) l
   order_of_construct c w at kind.Block b l i o = (b, o, i, λ x m r o. (tt, o))
   order_of_construct c w at kind.If b l i o = (b, o, i, λ x m r o. (tt, o))
   order_of_construct c w at kind.Switch b l i o = (b, o, i, λ x m r o. (missing_spared _, λ n p. (b, o, i, λ x m r o. (tt, o))))

@@ -11,7 +11,7 @@ use Rattle.rhai_grammar.specs.Delivered as M
 use Rattle.rhai_grammar.specs.declared.due.DueToken.TheVariants.{RightBrace}
 use Rattle.rhai_grammar_reading.specs.Reading.{Goal, Val}
 use Rattle.rhai_grammar.specs.Rules.{production}
-use Rattle.rhai_grammar.specs.Productions.{Production, View, Seen, view}
+use Rattle.rhai_grammar.specs.Productions.{Production, View, SeenBy, view}
 use Rattle.rhai_grammar.specs.Productions as S
 use Rattle.rhai_grammar.specs.Forms as D
 
@@ -57,7 +57,7 @@ module _ {h : Goal} {x : Val h} {s u : Point} where
       met = λ k t q. (goes D.any_token n refl, (n.is, r.met k t q));
     }
 
-    pub chooses : {v : View} {k : Seen v → Production (Val h)} → FitIn h (k (view v l)) x s u
+    pub chooses : {v : View} {k : SeenBy v → Production (Val h)} → FitIn h (k (view v l)) x s u
         → FitIn h (S.choose v k) x s u
     chooses r = record {
       filled = D.choose l at r.filled;

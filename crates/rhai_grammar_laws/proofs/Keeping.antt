@@ -18,23 +18,23 @@ module _ (rule : (g : Goal) → Production (Val g)) (Right : (g : Goal) → Val 
     (All : Library → Type 0) (more : (l : Library) (x : Ended) → Good x → All l → All (with_ended l x))
     (table : (g : Goal) (n : Lexeme) → Keeps Right Good (λ x next. Right g x n next) (rule g) n) where
   -- this holds of a form from a point on, and others are met after it
-  pub record Kept (R : Lexeme → Type 0) (k : Demands) (s t : Point) : Type 0 where
+  pub record KeptForm (R : Lexeme → Type 0) (k : Demands) (s t : Point) : Type 0 where
     pub end : Point
     pub met : Met k end t
     pub right : R (op_at end)
     pub all : All s.library → All end.library
 
-  pub ended : (R : Lexeme → Type 0) (s u : Point) → Kept R Nothing s u → R (op_at u) × (All s.library → All u.library)
+  pub ended : (R : Lexeme → Type 0) (s u : Point) → KeptForm R Nothing s u → R (op_at u) × (All s.library → All u.library)
   ended R s u a = subst (λ (p : Point). R (op_at p) × (All s.library → All p.library)) a.met (a.right, a.all)
 
   mutual
     pub right : {g : Goal} {x : Val g} (f : F.Form rule g x) (k : Demands) (s t : Point) → Met (F.demands rule f k) s t
-        → Kept (λ next. Right g x (op_at s) next) k s t
+        → KeptForm (λ next. Right g x (op_at s) next) k s t
     right (form {g = g} {x = x} f) k s t m = keeps f (op_at s) k s t m (table g (op_at s))
 
     keeps : {h : Goal} {p : Production (Val h)} {x : Val h} (f : F.Filled rule h p x) (a : Lexeme) (k : Demands)
         (s t : Point) → Met (F.demanded rule f k) s t → Keeps Right Good (λ y next. Right h y a next) p (op_at s)
-        → Kept (λ next. Right h x a next) k s t
+        → KeptForm (λ next. Right h x a next) k s t
     keeps given b k s t m h = record { end = s; met = m; right = h; all = λ a. a }
     keeps (take {h = j} {w = w} {m = c} {k = q} {r = Some x} l at f) b k s t m h =
         let u = past code s in

@@ -7,7 +7,7 @@ use Rattle.rhai_grammar.specs.Operators as O
 use Rattle.rhai_grammar.specs.Prelude.{Bracket, Chain, Dotted, Lexeme, Link, LinkKind, Node, Nodes, Position}
 use Rattle.rhai_grammar.specs.Prelude.{Properties, SlotValue, Text, added_text, affected, chain_of, chained, is_among}
 use Rattle.rhai_grammar.specs.Prelude.{is_last, is_variable, joined, joined_tree, link_node, made_block, nest, number}
-use Rattle.rhai_grammar.specs.Prelude.{part, qualified, value_of, variable_of, with_kept, with_node, with_property}
+use Rattle.rhai_grammar.specs.Prelude.{part_of_list, qualified, value_of, variable_of, with_kept, with_node, with_property}
 use Rattle.rhai_grammar.specs.declared.role.Effect.{Effect}
 use Rattle.rhai_grammar.specs.declared.role.Effect.TheVariants as effect
 use Rattle.rhai_grammar.specs.declared.role.Joining.{Joining}
@@ -15,7 +15,7 @@ use Rattle.rhai_grammar.specs.declared.role.Joining.TheVariants as joins
 use Rattle.rhai_grammar.specs.declared.role.ListKind.{ListKind}
 use Rattle.rhai_grammar.specs.declared.role.ListKind.TheVariants as lists
 use Rattle.rhai_lower.specs.declared.token.Token.TheVariants as token
-use Rattle.rhai_grammar.specs.Mentions.{Mention, Reads, is_read}
+use Rattle.rhai_grammar.specs.Mentions.{Mention, Variable, is_read}
 use Rattle.rhai_grammar_laws.proofs.TreeMentions.{all_mentions, body_mentions, mentions, property_mentions}
 use Rattle.rhai_grammar_laws.proofs.TreeMentions.{statement_mentions, statements_mentions}
 use Rattle.rhai_grammar.proofs.MentionLemmas.{More, Only, Silent, appended, call_before, prepended, same}
@@ -96,7 +96,7 @@ unfolding mentions
 variable t at slots = record { is = λ name. by name (is_some (number t slots)) }
   where
     by : (name : Text) (b : Bool)
-        → is_read name (if b || false then [] else Reads t ∷ []) ≡ is_among name (if b then [] else t ∷ [])
+        → is_read name (if b || false then [] else Variable t ∷ []) ≡ is_among name (if b then [] else t ∷ [])
     by name true = refl
     by name false = refl
 
@@ -104,7 +104,7 @@ pub with_path : (imports : List Text) (n : Node) (t : Text) (p : Position) → i
     → Silent (mentions (qualified imports n t p))
 unfolding mentions
 with_path imports (node.variable v q) t p e =
-    λ name. ap (λ b. is_read name (if b then [] else Reads t ∷ [])) (ends_path v.path (v.name, q))
+    λ name. ap (λ b. is_read name (if b then [] else Variable t ∷ [])) (ends_path v.path (v.name, q))
 with_path imports _ t p e = absurd cc
 
 -- ---- chains
@@ -171,7 +171,7 @@ join node.no_nodes b = refl
 join (node.one_node n a) b =
     ap (λ ms. mentions n ++ ms) (join a b) ∙ sym (append_assoc (mentions n) (all_mentions a) (all_mentions b))
 
-items : (k : ListKind) (n : Node) → all_mentions (O.items (part k n)) ≡ mentions n
+items : (k : ListKind) (n : Node) → all_mentions (O.items (part_of_list k n)) ≡ mentions n
 unfolding mentions
 items lists.And (node.conjunction xs p) = refl
 items lists.Or (node.disjunction xs p) = refl
@@ -186,8 +186,8 @@ list lists.Coalesce xs p = refl
 
 joined_list : (k : ListKind) (p : Position) (a b : Node) → mentions (O.list_of k p a b) ≡ mentions a ++ mentions b
 joined_list k p a b =
-    list k (joined (O.items (part k a)) (O.items (part k b))) (O.list_position p (part k a))
-    ∙ join (O.items (part k a)) (O.items (part k b)) ∙ ap₂ (λ x y. x ++ y) (items k a) (items k b)
+    list k (joined (O.items (part_of_list k a)) (O.items (part_of_list k b))) (O.list_position p (part_of_list k a))
+    ∙ join (O.items (part_of_list k a)) (O.items (part_of_list k b)) ∙ ap₂ (λ x y. x ++ y) (items k a) (items k b)
 
 alone : {a b : List Mention} {us : List Text} → More b a us → More b (a ++ []) us
 alone {a = a} h = same (append-nil a) h

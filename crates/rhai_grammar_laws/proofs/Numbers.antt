@@ -16,7 +16,7 @@ use Rattle.rhai_grammar_reading.proofs.Looks.{op_at}
 use Rattle.rhai_grammar.specs.Rules.{production}
 use Rattle.rhai_grammar.specs.Forms as D
 use Rattle.rhai_grammar_laws.specs.Numbered as Z
-use Rattle.rhai_grammar_laws.specs.Numbered.{ClosureParts, names, UnlessCalled, Right, TreesAreWellNumbered}
+use Rattle.rhai_grammar_laws.specs.Numbered.{ClosureParts, names, UnlessCalled, NumberedRight, TreesAreWellNumbered}
 use Rattle.rhai_grammar.specs.Rules as P
 use Rattle.rhai_grammar_laws.specs.Kept.{Keeps}
 use Rattle.rhai_grammar_laws.proofs.Constructs.{numbers_of_construct}
@@ -30,9 +30,9 @@ use Rattle.rhai_grammar_laws.proofs.NumbersOfStatements.{action, arm_end, defaul
 use Rattle.rhai_grammar_laws.proofs.NumbersOfStatements.{closure_by}
 
 abbrev Table : Goal → Type 0
-Table g = (n : Lexeme) → Keeps Right IsWellNumberedFunction (λ x next. Right g x n next) (production g) n
+Table g = (n : Lexeme) → Keeps NumberedRight IsWellNumberedFunction (λ x next. NumberedRight g x n next) (production g) n
 
-pub table : (g : Goal) (n : Lexeme) → Keeps Right IsWellNumberedFunction (λ x next. Right g x n next) (production g) n
+pub table : (g : Goal) (n : Lexeme) → Keeps NumberedRight IsWellNumberedFunction (λ x next. NumberedRight g x n next) (production g) n
 table (R.Whole c w) n = λ x m h. (λ e. h, λ e. tt)
 table (R.Expression c w) n = λ at room x m h y o k. k h
 table (R.Operand c w) n = λ v e. operand c w v n
@@ -133,9 +133,9 @@ more [] x h k = (h, tt)
 more (y ∷ l) x h k = (k.0, more l x h k.1)
 
 holds : {g : Goal} {x : Val g} (f : D.Form production g x) (s t : Point) → Met (D.demands production f Nothing) s t
-    → Right g x (op_at s) (op_at t) × (WellNumberedLibrary s.library → WellNumberedLibrary t.library)
-holds {g = g} {x = x} f s t m = K.ended production Right IsWellNumberedFunction WellNumberedLibrary more table
-    (λ next. Right g x (op_at s) next) s t (K.right production Right IsWellNumberedFunction WellNumberedLibrary more
+    → NumberedRight g x (op_at s) (op_at t) × (WellNumberedLibrary s.library → WellNumberedLibrary t.library)
+holds {g = g} {x = x} f s t m = K.ended production NumberedRight IsWellNumberedFunction WellNumberedLibrary more table
+    (λ next. NumberedRight g x (op_at s) next) s t (K.right production NumberedRight IsWellNumberedFunction WellNumberedLibrary more
     table f Nothing s t m)
 
 -- ---- closures
@@ -156,7 +156,7 @@ closure_by_right : {c : Context} {w : Live} {at : Position} {b : Bars} {x : Node
     → Met (D.demanded production f k) s t → IsRight (Z.closure_by by f)
 closure_by_right bars.Pair f k s t m = closure_of_right [] f k s t m
 closure_by_right bars.List (D.part own list f) k s t m =
-    let r = K.right production Right IsWellNumberedFunction WellNumberedLibrary more table list
+    let r = K.right production NumberedRight IsWellNumberedFunction WellNumberedLibrary more table list
     (D.demanded production f k)
     s t m in
     closure_of_right own f k r.end t r.met

@@ -30,15 +30,15 @@ use Rattle.rhai_grammar.specs.Productions.{Production}
 use Rattle.rhai_grammar.specs.Rules as P
 use Rattle.rhai_grammar.specs.Rules.{production}
 use Rattle.rhai_grammar_laws.specs.Kept.{Keeps}
-use Rattle.rhai_grammar_laws.specs.Numbered.{names, UnlessCalled, Right}
+use Rattle.rhai_grammar_laws.specs.Numbered.{names, UnlessCalled, NumberedRight}
 use Rattle.rhai_grammar_laws.proofs.NumberTrees.{one_node, one_property, one_text, one_link}
 
 abbrev pub KeepsIn : {A : Type 0} → (A → Type 0) → Production A → Lexeme → Type 0
-KeepsIn R p n = Keeps Right IsWellNumberedFunction (λ x next. R x) p n
+KeepsIn R p n = Keeps NumberedRight IsWellNumberedFunction (λ x next. R x) p n
 
 pub by_either : {A : Type 0} (R : A → Lexeme → Type 0) (b : Bool) (p q : Production A) (n : Lexeme)
-    → Keeps Right IsWellNumberedFunction R p n → Keeps Right IsWellNumberedFunction R q n
-    → Keeps Right IsWellNumberedFunction R (if b then p else q) n
+    → Keeps NumberedRight IsWellNumberedFunction R p n → Keeps NumberedRight IsWellNumberedFunction R q n
+    → Keeps NumberedRight IsWellNumberedFunction R (if b then p else q) n
 by_either R true p q n g h = g
 by_either R false p q n g h = h
 
@@ -88,7 +88,7 @@ right c w first.Written n = λ x m h. h
 abbrev pub PrimaryRight : Live → Node → Lexeme → Type 0
 PrimaryRight w x next = UnlessCalled (names w) x next
 
-pub primary : (c : Context) (w : Live) (v : Beginning) (n : Lexeme) → Keeps Right IsWellNumberedFunction
+pub primary : (c : Context) (w : Live) (v : Beginning) (n : Lexeme) → Keeps NumberedRight IsWellNumberedFunction
     (PrimaryRight w) (P.primary_by c w v) n
 primary c w begin.Value n = λ at m e. N.value (names w) n at
 primary c w begin.Name n = λ at m b e. name_kept w b (text_of n) at m e

@@ -12,9 +12,9 @@ use Rattle.rhai_grammar.specs.Verdicts.{anything}
 use Rattle.rhai_grammar.specs.declared.due.DueToken.TheVariants.{RightBrace}
 use Rattle.rhai_lower.specs.Lexemes.{Faulty}
 use Rattle.rhai_grammar.proofs.Duplicates.{Spares, either, is_duplicate, literal, refused, same_cause}
-use Rattle.rhai_grammar.proofs.LibrarySteps.{Kept}
+use Rattle.rhai_grammar.proofs.LibrarySteps.{KeptWithin}
 use Rattle.rhai_grammar_reading.specs.Reading.{Goal, Val}
-use Rattle.rhai_grammar.specs.Productions.{Production, Seen, view}
+use Rattle.rhai_grammar.specs.Productions.{Production, SeenBy, view}
 use Rattle.rhai_grammar.specs.Productions as S
 use Rattle.rhai_grammar.specs.Forms as F
 use Rattle.rhai_grammar.specs.Forms.{given, take, this, if_so, if_not, choose, here, must, checked, knows, adds, uses}
@@ -44,12 +44,12 @@ module _ (limit : ℕ) (Begun : ℕ → Goal → Type 0) (Right : (g : Goal) →
     -- After these functions a production keeps libraries orderly, where so many functions have begun; R holds of what
     -- is given. Each test spares causes, or does not fail here.
     abbrev pub Orders : {A : Type 0} → (A → Type 0) → Production A → Library → Type 0
-    Orders R (S.give x) l = R x × Kept limit begun l
+    Orders R (S.give x) l = R x × KeptWithin limit begun l
     Orders R (S.never why) l = (n : Lexeme) → duplicates_closure (why n) ≡ false
     Orders R (S.take w m k) l = ((n : Lexeme) → duplicates_closure (m n) ≡ false)
         × ((n : Lexeme) (at : Position) → Orders R (k n at) l)
     Orders R (S.this k) l = (n : Lexeme) (at : Position) → Orders R (k n at) l
-    Orders R (S.choose v k) l = (y : Seen v) (n : Lexeme) → view v n ≡ y → Orders R (k y) l
+    Orders R (S.choose v k) l = (y : SeenBy v) (n : Lexeme) → view v n ≡ y → Orders R (k y) l
     Orders R (S.if_next t p q) l = Orders R p l × Orders R q l
     Orders R (S.here k) l = (at : Position) → Orders R (k at) l
     Orders R (S.must b e p) l = (b ≡ false → Spared e) × (b ≡ true → Orders R p l)
@@ -58,33 +58,33 @@ module _ (limit : ℕ) (Begun : ℕ → Goal → Type 0) (Right : (g : Goal) →
     Orders R (S.adds f p) l = Within (with_ended l f) × Orders R p (with_ended l f)
     Orders R (S.uses v ok e c u k) l = Spared e × ((b : Bool) → Orders R (k b) l)
     Orders R (S.captures ok e c u p) l = Spared e × Orders R p l
-    Orders R (S.part g k) l = (b : ℕ) × Kept limit b l × Begun b g
-        × ((x : Val g) (m : Library) → Right g x → Kept limit b m → Orders R (k x) m)
-    Orders R (S.literal g is k) l = (b : ℕ) × Kept limit b l × Begun b g
-        × ((x : Val g) (m : Library) → Right g x → Kept limit b m → Orders R (k x) m)
-    Orders R (S.apart g k) l = (b : ℕ) × Kept limit b l × Begun b g
-        × ((x : Val g) (us : List Use) (m : Library) → Right g x → Kept limit b m
+    Orders R (S.part g k) l = (b : ℕ) × KeptWithin limit b l × Begun b g
+        × ((x : Val g) (m : Library) → Right g x → KeptWithin limit b m → Orders R (k x) m)
+    Orders R (S.literal g is k) l = (b : ℕ) × KeptWithin limit b l × Begun b g
+        × ((x : Val g) (m : Library) → Right g x → KeptWithin limit b m → Orders R (k x) m)
+    Orders R (S.apart g k) l = (b : ℕ) × KeptWithin limit b l × Begun b g
+        × ((x : Val g) (us : List Use) (m : Library) → Right g x → KeptWithin limit b m
         → Orders R (k x us (closure_count m)) m)
     Orders R (S.in_text k) l = (closing : Position) (n : Lexeme) (at : Position) → Orders R (k closing n at) l
 
-  pub within : (b : ℕ) (l : Library) → Kept limit b l → Within l
+  pub within : (b : ℕ) (l : Library) → KeptWithin limit b l → Within l
   within b l h = record { numbered = h.0.numbered; keys = h.0.keys; within = (let g = h.0.within in omega (arith, g)) }
 
   module _ (rule : (g : Goal) → Production (Val g))
-      (table : (g : Goal) (b : ℕ) (l : Library) → Begun b g → Kept limit b l → Orders b (Right g) (rule g) l) where
+      (table : (g : Goal) (b : ℕ) (l : Library) → Begun b g → KeptWithin limit b l → Orders b (Right g) (rule g) l) where
     -- other demands are met from a point on whose library is orderly, and this holds
     pub record Ordered (R : Type 0) (b : ℕ) (k : Demands) (t : Point) : Type 0 where
       pub end : Point
       pub met : Met k end t
       pub right : R
-      pub kept : Kept limit b end.library
+      pub kept : KeptWithin limit b end.library
 
-    pub ended : (R : Type 0) (b : ℕ) (t : Point) → Ordered R b Nothing t → R × Kept limit b t.library
-    ended R b t a = (a.right, subst (λ (p : Point). Kept limit b p.library) a.met a.kept)
+    pub ended : (R : Type 0) (b : ℕ) (t : Point) → Ordered R b Nothing t → R × KeptWithin limit b t.library
+    ended R b t a = (a.right, subst (λ (p : Point). KeptWithin limit b p.library) a.met a.kept)
 
     mutual
       pub ordered : {g : Goal} {x : Val g} (f : F.Form rule g x) (b : ℕ) (k : Demands) (s t : Point) → Begun b g
-          → Kept limit b s.library → Met (F.demands rule f k) s t → Ordered (Right g x) b k t
+          → KeptWithin limit b s.library → Met (F.demands rule f k) s t → Ordered (Right g x) b k t
       ordered (form {g = g} f) b k s t i o m = ordered_in f b k s t (table g b s.library i o) m
 
       ordered_in : {h : Goal} {p : Production (Val h)} {x : Val h} (f : F.Filled rule h p x) (b : ℕ) (k : Demands)
@@ -127,7 +127,7 @@ module _ (limit : ℕ) (Begun : ℕ → Goal → Type 0) (Right : (g : Goal) →
       from : Point
       missed : Missed k from e n t
       right : R
-      kept : Kept limit b from.library
+      kept : KeptWithin limit b from.library
 
     abbrev Fails : ℕ → Demands → Refusal → Mode → Point → Type 0 → Type 0
     Fails b k e n t R = Left e t ⊎ Later b k e n t R
@@ -195,19 +195,19 @@ module _ (limit : ℕ) (Begun : ℕ → Goal → Type 0) (Right : (g : Goal) →
 
     -- a part is refused, or what follows it is missed
     then_ : {Q S : Type 0} {b : ℕ} {k : Demands} {e : Refusal} {n : Mode} {t : Point} → Fails b k e n t Q
-        → (Left e t → S) → ((u : Point) → Q → Kept limit b u.library → Missed k u e n t → S) → S
+        → (Left e t → S) → ((u : Point) → Q → KeptWithin limit b u.library → Missed k u e n t → S) → S
     then_ (inl a) f g = f a
     then_ (inr r) f g = g r.from r.right r.kept r.missed
 
     mutual
       fails : {g : Goal} {x : Val g} (f : F.Form rule g x) (b : ℕ) (k : Demands) (s : Point) (e : Refusal) (n : Mode)
-          (t : Point) → Begun b g → Kept limit b s.library → Missed (F.demands rule f k) s e n t
+          (t : Point) → Begun b g → KeptWithin limit b s.library → Missed (F.demands rule f k) s e n t
           → Fails b k e n t (Right g x)
       fails (form {g = g} f) b k s e n t i o m =
           fails_in f b k s e n t (within b s.library o) (table g b s.library i o) m
 
       pub stops : {g : Goal} (f : F.Open rule g) (b : ℕ) (s : Point) (e : Refusal) (n : Mode) (t : Point) → Begun b g
-          → Kept limit b s.library → Missed (F.stops rule f) s e n t → Left e t
+          → KeptWithin limit b s.library → Missed (F.stops rule f) s e n t → Left e t
       stops (F.open_form {g = g} f) b s e n t i o m =
           inside b e n t (fails_in f b Nothing s e n t (within b s.library o) (table g b s.library i o) m)
 

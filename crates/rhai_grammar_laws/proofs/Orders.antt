@@ -10,7 +10,7 @@ use Rattle.rhai_grammar.specs.Prelude.{arm_fault}
 use Rattle.rhai_grammar.specs.Prelude.{Use, Library, Refusal}
 use Rattle.rhai_grammar.specs.Prelude.{is_new, names_function}
 use Rattle.rhai_grammar.specs.Prelude.{closure_count, closure_name, ended_closure, made_block, noop}
-use Rattle.rhai_grammar.proofs.LibrarySteps.{Kept, few_closures}
+use Rattle.rhai_grammar.proofs.LibrarySteps.{KeptWithin, few_closures}
 use Rattle.rhai_grammar.proofs.LibraryLemmas.{key_is_new}
 use Rattle.rhai_grammar.proofs.EventEnds.{no_closure}
 use Rattle.rhai_grammar.proofs.SparedFaults as D
@@ -22,7 +22,7 @@ use Rattle.rhai_grammar.specs.Rules.{production}
 use Rattle.rhai_grammar_laws.proofs.Constructs.{order_of_construct}
 use Rattle.rhai_grammar_laws.proofs.Ordering.{Spared, missing_spared, unexpected_spared}
 use Rattle.rhai_grammar_laws.proofs.OrderCauses.{fault, no_body, no_function_name, no_variable}
-use Rattle.rhai_grammar_laws.proofs.OrdersOfOperands.{Begun, OrdersAs, Right, by_either, either_of, parted, operand}
+use Rattle.rhai_grammar_laws.proofs.OrdersOfOperands.{Begun, OrdersAs, OrdersRight, by_either, either_of, parted, operand}
 use Rattle.rhai_grammar_laws.proofs.OrdersOfOperands.{right, primary, called, call_of, links, element, key, field}
 use Rattle.rhai_grammar_laws.proofs.OrdersOfOperands.{follower, binary}
 use Rattle.std.proofs.Common.{◌∙◌, sym, arith}
@@ -39,11 +39,11 @@ use Rattle.rhai_grammar_laws.proofs.OrdersOfStatements.{inner, joins, closure}
 
 module _ (limit : ℕ) where
   abbrev Table : Goal → Type 0
-  Table g = (b : ℕ) (l : Library) → Begun limit b g → Kept limit b l
-      → OrdersAs limit (λ x. Right g x) b (production g) l
+  Table g = (b : ℕ) (l : Library) → Begun limit b g → KeptWithin limit b l
+      → OrdersAs limit (λ x. OrdersRight g x) b (production g) l
 
-  pub table : (g : Goal) (b : ℕ) (l : Library) → Begun limit b g → Kept limit b l
-      → OrdersAs limit (λ x. Right g x) b (production g) l
+  pub table : (g : Goal) (b : ℕ) (l : Library) → Begun limit b g → KeptWithin limit b l
+      → OrdersAs limit (λ x. OrdersRight g x) b (production g) l
   table (R.Whole c w) b l i o = (b, o, i, λ x m r o. ((tt, o), unexpected_spared))
   table (R.Expression c w) b l i o = λ at. (λ e. refl, λ s. (b, o, i, λ x m r o. (b, o, i, λ x m r o. (tt, o))))
   table (R.Operand c w) b l i o = λ v n e. operand limit c w v b l i o
@@ -286,8 +286,8 @@ module _ (limit : ℕ) where
 
 keeps_order : (c : Context) (g : Goal) → Begun c.sizes.functions c.begun g → FormsKeepOrder c g
 keeps_order c g i = record {
-  met = λ x f s t bound h m. (ended n (Begun n) Right production (table n) (Right g x) c.begun t
-      (ordered n (Begun n) Right production (table n) f c.begun Nothing s t i (h, bound) m)).1.0;
+  met = λ x f s t bound h m. (ended n (Begun n) OrdersRight production (table n) (OrdersRight g x) c.begun t
+      (ordered n (Begun n) OrdersRight production (table n) f c.begun Nothing s t i (h, bound) m)).1.0;
   missed = λ f s t e mode bound h m. (left f s t e mode (h, bound) m).1;
   cause = λ f s t e mode bound h m. (left f s t e mode (h, bound) m).0;
 }
@@ -295,9 +295,9 @@ keeps_order c g i = record {
     n : ℕ
     n = c.sizes.functions
 
-    left : (f : Form.Open production g) (s t : Point) (e : Refusal) (mode : Mode) → Kept n c.begun s.library
+    left : (f : Form.Open production g) (s t : Point) (e : Refusal) (mode : Mode) → KeptWithin n c.begun s.library
         → Missed (Form.stops production f) s e mode t → Spared e × IsOrderly n 0 t.library
-    left f s t e mode h m = stops n (Begun n) Right production (table n) f c.begun s e mode t i h m
+    left f s t e mode h m = stops n (Begun n) OrdersRight production (table n) f c.begun s e mode t i h m
 
 -- The uses of captured names change no library.
 used_there : {h : Goal} (us : List Use) (c : Context) (w : Live) (y : Val h) {x : Val h}
@@ -309,14 +309,14 @@ used_there (u ∷ us) c w y (Form.captures rest) s t m =
 
 key_is_new_there : (c : Context) (w : Live) (own : List Text) (v : node.Statement) (n : ℕ) (us : List Use)
     (f : Form.Form production (ClosureBody (level_up (in_closure c w)) (parameters_live own)) v) (s u t : Point)
-    → Kept c.sizes.functions (c.begun + 1) s.library → Met (Form.demands production f Nothing) (apart s) u
+    → KeptWithin c.sizes.functions (c.begun + 1) s.library → Met (Form.demands production f Nothing) (apart s) u
     → closure_count u.library ≡ n → u.library ≡ t.library
     → is_new (ended_closure n us own (made_block v)).key t.library ≡ true
 key_is_new_there c w own v n us f s u t h m counted same =
     let size = c.sizes.functions in
-    let o = (ended size (Begun size) Right production (table size) (Unit {0}) (c.begun + 1) u
-    (ordered size (Begun size) Right production (table size) f (c.begun + 1) Nothing (apart s) u (refl, refl) h m)).1 in
-    let k : Kept size (c.begun + 1) t.library = subst (Kept size (c.begun + 1)) same o in
+    let o = (ended size (Begun size) OrdersRight production (table size) (Unit {0}) (c.begun + 1) u
+    (ordered size (Begun size) OrdersRight production (table size) f (c.begun + 1) Nothing (apart s) u (refl, refl) h m)).1 in
+    let k : KeptWithin size (c.begun + 1) t.library = subst (KeptWithin size (c.begun + 1)) same o in
     key_is_new t.library (ended_closure n us own (made_block v)).key k.0.numbered
     (few_closures size c.begun t.library k)
     (ap closure_name (sym counted ∙ ap closure_count same))

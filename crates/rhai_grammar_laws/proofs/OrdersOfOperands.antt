@@ -23,7 +23,7 @@ use Rattle.rhai_grammar.specs.declared.role.Calling.{Calling}
 use Rattle.rhai_grammar.specs.declared.role.ItemRole.{ItemRole}
 use Rattle.rhai_grammar.specs.declared.role.Linking.{Linking}
 use Rattle.rhai_grammar.specs.declared.role.OperandStart.{OperandStart}
-use Rattle.rhai_grammar.proofs.LibrarySteps.{Kept}
+use Rattle.rhai_grammar.proofs.LibrarySteps.{KeptWithin}
 use Rattle.rhai_grammar.proofs.SparedFaults as D
 use Rattle.rhai_grammar.specs.Strengths.{continues}
 use Rattle.rhai_grammar_reading.specs.Reading as R
@@ -89,14 +89,14 @@ Begun limit b (R.ClosureBody c w) = Fits limit b c
 Begun limit b _ = Unit {0}
 
 -- The name of a function is none of a closure.
-abbrev pub Right : (g : Goal) → Val g → Type 0
-Right R.FunctionHead x = names_function x.1 ≡ true
-Right (R.Function c comments at is_private) x = (is_closure x.key ≡ false) × Spared (duplicate_of x.key nowhere)
-Right _ x = Unit {0}
+abbrev pub OrdersRight : (g : Goal) → Val g → Type 0
+OrdersRight R.FunctionHead x = names_function x.1 ≡ true
+OrdersRight (R.Function c comments at is_private) x = (is_closure x.key ≡ false) × Spared (duplicate_of x.key nowhere)
+OrdersRight _ x = Unit {0}
 
 module _ (limit : ℕ) where
   abbrev pub OrdersAs : {A : Type 0} → (A → Type 0) → ℕ → Production A → Library → Type 0
-  OrdersAs Q b p l = Orders limit (Begun limit) Right b Q p l
+  OrdersAs Q b p l = Orders limit (Begun limit) OrdersRight b Q p l
 
   abbrev pub OrdersIn : {A : Type 0} → ℕ → Production A → Library → Type 0
   OrdersIn b p l = OrdersAs (λ x. Unit {0}) b p l
@@ -118,7 +118,7 @@ module _ (limit : ℕ) where
 
   -- ---- the productions
 
-  pub operand : (c : Context) (w : Live) (v : Beginning) (b : ℕ) (l : Library) → Fits limit b c → Kept limit b l
+  pub operand : (c : Context) (w : Live) (v : Beginning) (b : ℕ) (l : Library) → Fits limit b c → KeptWithin limit b l
       → OrdersIn b (P.operand_by c w v) l
   operand c w begin.Sign b l i o = λ n at. (λ e. refl, λ s. (b, o, i, λ x m r o. (λ e. refl, λ s. (tt, o))))
   operand c w _ b l i o = (
@@ -139,13 +139,13 @@ module _ (limit : ℕ) where
     ),
   )
 
-  pub right : (c : Context) (w : Live) (v : OperandStart) (b : ℕ) (l : Library) → Fits limit b c → Kept limit b l
+  pub right : (c : Context) (w : Live) (v : OperandStart) (b : ℕ) (l : Library) → Fits limit b c → KeptWithin limit b l
       → OrdersIn b (P.right_by c w v) l
   right c w first.Omitted b l i o = λ at. (tt, o)
   right c w first.Jump b l i o = (b, o, i, λ x m r o. (tt, o))
   right c w first.Written b l i o = (b, o, i, λ x m r o. (tt, o))
 
-  pub primary : (c : Context) (w : Live) (v : Beginning) (b : ℕ) (l : Library) → Fits limit b c → Kept limit b l
+  pub primary : (c : Context) (w : Live) (v : Beginning) (b : ℕ) (l : Library) → Fits limit b c → KeptWithin limit b l
       → OrdersIn b (P.primary_by c w v) l
   primary c w begin.Value b l i o = λ n at. (tt, o)
   primary c w begin.Name b l i o = λ n at. (refl, λ s. (tt, o))
@@ -166,18 +166,18 @@ module _ (limit : ℕ) where
   primary c w _ b l i o = no_operand
 
   pub given : (c : Context) (w : Live) (name : Position) (bang : Bool) (v : Calling) (b : ℕ) (l : Library)
-      → Fits limit b c → Kept limit b l → OrdersIn b (P.arguments_by c w name bang v) l
+      → Fits limit b c → KeptWithin limit b l → OrdersIn b (P.arguments_by c w name bang v) l
   given c w name bang calls_by.Pair b l i o = λ n at. (tt, o)
   given c w name bang calls_by.List b l i o = λ n at. (b, o, i, λ x m r o. (tt, o))
   given c w name bang _ b l i o = missing_spared _
 
   pub called : (c : Context) (w : Live) (name : Position) (q : Bool) (v : Calling) (b : ℕ) (l : Library)
       → Fits limit b c
-      → Kept limit b l → OrdersIn b (P.called_by c w name q v) l
+      → KeptWithin limit b l → OrdersIn b (P.called_by c w name q v) l
   called c w name q calls_by.Bang b l i o = λ n at v m e. (λ e. refl, λ s. given c w name true v b l i o)
   called c w name q v b l i o = given c w name false v b l i o
 
-  pub call_of : (c : Context) (w : Live) (x : Node) (b : ℕ) (l : Library) → Fits limit b c → Kept limit b l
+  pub call_of : (c : Context) (w : Live) (x : Node) (b : ℕ) (l : Library) → Fits limit b c → KeptWithin limit b l
       → OrdersIn b (P.call_of c w x) l
   call_of c w x b l i o = (
     (b, o, i, λ call m r o. (fault (module_fault c w x) (D.module_fault c w x), λ s. (tt, o))),
@@ -185,14 +185,14 @@ module _ (limit : ℕ) where
   )
 
   pub dotted : (w : Live) (spot : LinkSpot) (t : Lexeme) (at : Position) (v : MemberRole) (n : Lexeme)
-      → member_role n ≡ v → (b : ℕ) (l : Library) → Fits limit b spot.settings → Kept limit b l
+      → member_role n ≡ v → (b : ℕ) (l : Library) → Fits limit b spot.settings → KeptWithin limit b l
       → OrdersIn b (P.dotted_by w spot t at v) l
   dotted w spot t at AMember n e b l i o =
       (λ e. refl, λ s. (b, o, i, λ x m r o. (b, o, (i, i), λ ls m r o. (tt, o))))
   dotted w spot t at (NoMember why) n e b l i o = λ m. member_spared n why e
 
   pub links : (w : Live) (spot : LinkSpot) (v : Linking) (b : ℕ) (l : Library) → Fits limit b spot.settings
-      → Fits limit b spot.brackets → Kept limit b l → OrdersIn b (P.links_by w spot v) l
+      → Fits limit b spot.brackets → KeptWithin limit b l → OrdersIn b (P.links_by w spot v) l
   links w spot link.Bracket b l i j o = λ n at. (
     λ e. refl,
     λ s. (
@@ -210,7 +210,7 @@ module _ (limit : ℕ) where
   links w spot link.Nothing b l i j o = (fault (last_fault spot.before) (D.last_fault spot.before), λ s. (tt, o))
 
   pub element : (c : Context) (w : Live) (opening : Position) (before : Nodes) (v : ItemRole) (b : ℕ) (l : Library)
-      → Fits limit b c → Kept limit b l → OrdersIn b (P.element_by c w opening before v) l
+      → Fits limit b c → KeptWithin limit b l → OrdersIn b (P.element_by c w opening before v) l
   element c w opening before place.End b l i o = λ n at. (tt, o)
   element c w opening before place.Item b l i o = (
     λ e. refl,
@@ -226,13 +226,13 @@ module _ (limit : ℕ) where
 
   pub key : (c : Context) (before : Properties) (v : KeyRole) (n : Lexeme) → V.next_key c.settings before n ≡ v
       → (b : ℕ)
-      (l : Library) → Kept limit b l → OrdersIn b (P.key_by c before v) l
+      (l : Library) → KeptWithin limit b l → OrdersIn b (P.key_by c before v) l
   key c before FieldsEnd n e b l o = λ n at. (tt, o)
   key c before (AKey k) n e b l o = λ n at. (λ e. refl, λ s. (missing_spared _, λ n p. (λ n. refl, (tt, o))))
   key c before (NoKey why) n e b l o = λ m. key_spared c before n why e
 
   pub field : (c : Context) (w : Live) (opening : Position) (before : Properties) (v : Option (Text × Position)) (b : ℕ)
-      (l : Library) → Fits limit b c → Kept limit b l → OrdersIn b (P.field_by c w opening before v) l
+      (l : Library) → Fits limit b c → KeptWithin limit b l → OrdersIn b (P.field_by c w opening before v) l
   field c w opening before None b l i o = (tt, o)
   field c w opening before (Some k) b l i o = (
     λ e. refl,
@@ -245,13 +245,13 @@ module _ (limit : ℕ) where
     ),
   )
 
-  pub follower : (v : Follower) (b : ℕ) (l : Library) → Kept limit b l → OrdersIn b (P.follower_by v) l
+  pub follower : (v : Follower) (b : ℕ) (l : Library) → KeptWithin limit b l → OrdersIn b (P.follower_by v) l
   follower (Operator n right) b l o = (tt, o)
   follower (Unknown t) b l o = λ n. refl
   follower Other b l o = (tt, o)
 
   pub binary : (c : Context) (w : Live) (at : Position) (parent : ℕ) (lhs : Node) (v : Option (ℕ × Bool)) (b : ℕ)
-      (l : Library) → Fits limit b c → Kept limit b l → OrdersIn b (P.binary_of c w at parent lhs v) l
+      (l : Library) → Fits limit b c → KeptWithin limit b l → OrdersIn b (P.binary_of c w at parent lhs v) l
   binary c w at parent lhs None b l i o = (tt, o)
   binary c w at parent lhs (Some op) b l i o = either_of (continues parent op.0 op.1) _ _ b l
       (λ n pos. (

@@ -17,7 +17,7 @@ use Rattle.rhai_grammar.proofs.PositionTrees as T
 use Rattle.rhai_grammar.proofs.PositionTrees.{AllLinks, AllPlaced, Placed}
 use Rattle.rhai_grammar_laws.proofs.Constructs.{position_of_construct}
 use Rattle.rhai_grammar_laws.proofs.Standing.{refused}
-use Rattle.rhai_grammar_laws.proofs.PositionsOfOperands.{AllowsAs, Wants, Right, by_either, either_of, parted}
+use Rattle.rhai_grammar_laws.proofs.PositionsOfOperands.{AllowsAs, Wants, PlacedRight, by_either, either_of, parted}
 use Rattle.rhai_grammar_laws.proofs.PositionsOfOperands.{one_more, longer, operand, right, primary, called, call_of}
 use Rattle.rhai_grammar_laws.proofs.PositionsOfOperands.{links}
 use Rattle.rhai_grammar_laws.proofs.PositionsOfOperands.{element, key, field, follower, binary}
@@ -26,9 +26,9 @@ use Rattle.rhai_grammar_laws.proofs.PositionsOfStatements.{action, arm_end, defa
 
 module _ (G : Position → Type 0) where
   abbrev Table : Goal → Type 0
-  Table g = Wants G g → AllowsAs G (λ x. Right G g x) (production g)
+  Table g = Wants G g → AllowsAs G (λ x. PlacedRight G g x) (production g)
 
-  pub table : (g : Goal) → Wants G g → AllowsAs G (λ x. Right G g x) (production g)
+  pub table : (g : Goal) → Wants G g → AllowsAs G (λ x. PlacedRight G g x) (production g)
   table (R.Whole c w) i = (tt, λ x h. (tt, tt))
   table (R.Expression c w) i = λ at a. (λ e. a, (tt, λ x h. ((T.position G x h, h), λ y k. k)))
   table (R.Operand c w) i = λ v. operand G c w v
@@ -166,10 +166,10 @@ of_goal : (g : Goal) → ((G : Position → Type 0) → Wants G g) → StandAtTo
 of_goal g i = record {
   missed = λ f s t e m c x.
       let G = StandsAtToken m t in
-      refused G (Wants G) (Right G) production (table G) f s t e m (i G) c (up_to m t) x;
+      refused G (Wants G) (PlacedRight G) production (table G) f s t e m (i G) c (up_to m t) x;
   named = λ before later taken start left e n.
       let G = StandsAmong taken (next_item left) in
-      refused G (Wants G) (Right G) production (table G) n.form _ _ e left.mode (i G) refl
+      refused G (Wants G) (PlacedRight G) production (table G) n.form _ _ e left.mode (i G) refl
       (seen taken left later n.captured) n.missed;
 }
 

@@ -74,36 +74,36 @@ module _ (G : Position → Type 0) where
   Wants _ = Unit {0}
 
   -- So are those of what is given, as far as errors stand there.
-  abbrev pub Right : (g : Goal) → Val g → Type 0
-  Right (R.Expression c w) x = Placed G x
-  Right (R.Operand c w) x = Placed G x
-  Right (R.RightOperand c w place) x = Placed G x
-  Right (R.Primary c w) x = Placed G x
-  Right (R.Path w y) x = Placed G x
-  Right (R.Links w spot) ls = AllLinks G ls
-  Right (R.Index c w indexed) x = Placed G x
-  Right (R.Member c w) x = Placed G x
-  Right (R.Postfix c w y) x = Placed G x
-  Right (R.BinaryOp c w at parent lhs) x = Placed G x
-  Right (R.ExprStatement c w) f = BlockAt f
-  Right (R.Definition c w at constant exported) f = BlockAt f.0
-  Right (R.Import c w at) f = BlockAt f.0
-  Right (R.Export c w at) f = BlockAt f.0
-  Right (R.Statement c w) f = BlockAt f.0
-  Right R.BlockStart at = G at
-  Right (R.Block c w at) b = G (block_start b)
-  Right (R.BlockEnd at fs) b = G (block_start b)
-  Right (R.Construct c w at kind) f = BlockAt f
-  Right (R.Braced c w at) b = G (block_start b)
-  Right (R.Conditional c w at) f = BlockAt f
-  Right (R.Cases c w before) xs = AllPlaced G xs
-  Right (R.Case c w) x = Placed G x
-  Right (R.FunctionStatement c w comments first at is_private) f = BlockAt f.0
-  Right (R.Closure c w at by) x = Placed G x
-  Right _ x = Unit {0}
+  abbrev pub PlacedRight : (g : Goal) → Val g → Type 0
+  PlacedRight (R.Expression c w) x = Placed G x
+  PlacedRight (R.Operand c w) x = Placed G x
+  PlacedRight (R.RightOperand c w place) x = Placed G x
+  PlacedRight (R.Primary c w) x = Placed G x
+  PlacedRight (R.Path w y) x = Placed G x
+  PlacedRight (R.Links w spot) ls = AllLinks G ls
+  PlacedRight (R.Index c w indexed) x = Placed G x
+  PlacedRight (R.Member c w) x = Placed G x
+  PlacedRight (R.Postfix c w y) x = Placed G x
+  PlacedRight (R.BinaryOp c w at parent lhs) x = Placed G x
+  PlacedRight (R.ExprStatement c w) f = BlockAt f
+  PlacedRight (R.Definition c w at constant exported) f = BlockAt f.0
+  PlacedRight (R.Import c w at) f = BlockAt f.0
+  PlacedRight (R.Export c w at) f = BlockAt f.0
+  PlacedRight (R.Statement c w) f = BlockAt f.0
+  PlacedRight R.BlockStart at = G at
+  PlacedRight (R.Block c w at) b = G (block_start b)
+  PlacedRight (R.BlockEnd at fs) b = G (block_start b)
+  PlacedRight (R.Construct c w at kind) f = BlockAt f
+  PlacedRight (R.Braced c w at) b = G (block_start b)
+  PlacedRight (R.Conditional c w at) f = BlockAt f
+  PlacedRight (R.Cases c w before) xs = AllPlaced G xs
+  PlacedRight (R.Case c w) x = Placed G x
+  PlacedRight (R.FunctionStatement c w comments first at is_private) f = BlockAt f.0
+  PlacedRight (R.Closure c w at by) x = Placed G x
+  PlacedRight _ x = Unit {0}
 
   abbrev pub AllowsAs : {A : Type 0} → (A → Type 0) → Production A → Type 0
-  AllowsAs Q p = Allows G Wants Right Q p
+  AllowsAs Q p = Allows G Wants PlacedRight Q p
 
   abbrev pub AllowsIn : {A : Type 0} → Production A → Type 0
   AllowsIn p = AllowsAs (λ x. Unit {0}) p

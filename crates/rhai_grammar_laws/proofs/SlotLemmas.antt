@@ -124,15 +124,15 @@ unextended : (names : List Text) → Extends names names
 unextended names = (take_all (length names) names (omega arith), omega arith)
 
 -- what is kept of what was live
-record Kept (w v : Live) : Type 0 where
+record KeptSlots (w v : Live) : Type 0 where
   block : v.block ≡ w.block
   slots : w.block ≤ length w.slots → KeepsBelow w.block w.slots v.slots
   imports : Extends w.imports v.imports
 
-same : (w : Live) → Kept w w
+same : (w : Live) → KeptSlots w w
 same w = record { block = refl; slots = λ l. (refl, l); imports = unextended w.imports }
 
-on : (a b c : Live) → Kept a b → Kept b c → Kept a c
+on : (a b c : Live) → KeptSlots a b → KeptSlots b c → KeptSlots a c
 on a b c h k = record {
   block = k.block ∙ h.block;
   slots = λ l.
@@ -148,27 +148,27 @@ on a b c h k = record {
   );
 }
 
-kept_defined : (name : Text) (constant : Bool) (w : Live) → Kept w (defined name constant w)
+kept_defined : (name : Text) (constant : Bool) (w : Live) → KeptSlots w (defined name constant w)
 kept_defined name constant w = record {
   block = refl;
   slots = λ l. defined_keeps w.block name constant w.slots (reused w.block name w.slots) refl l;
   imports = unextended w.imports;
 }
 
-kept_exported : (name alias : Text) (w : Live) → Kept w (exported name alias w)
+kept_exported : (name alias : Text) (w : Live) → KeptSlots w (exported name alias w)
 kept_exported name alias w = record {
   block = refl;
   slots = λ l. exported_keeps w.block alias w.slots (number name w.slots) l;
   imports = unextended w.imports;
 }
 
-kept_as : (e : Bool) (name : Text) (constant : Bool) (w : Live) → Kept w (defined_as e name constant w)
+kept_as : (e : Bool) (name : Text) (constant : Bool) (w : Live) → KeptSlots w (defined_as e name constant w)
 kept_as false name constant w = kept_defined name constant w
 kept_as true name constant w =
     let v = defined name constant w in
     on w v (exported name name v) (kept_defined name constant w) (kept_exported name name v)
 
-kept_import : (name : Option Text) (w : Live) → Kept w (imported name w)
+kept_import : (name : Option Text) (w : Live) → KeptSlots w (imported name w)
 kept_import name w =
     let more = unwrap_or name [] ∷ [] in
     record {
@@ -183,27 +183,27 @@ kept_import name w =
 
 -- ---- the productions that say what is live after them
 
-abbrev Right : (g : Goal) → Val g → Type 0
-Right (R.Definition c w at k e) f = Kept w f.1
-Right (R.Import c w at) f = Kept w f.1
-Right (R.Export c w at) f = Kept w f.1
-Right (R.Statement c w) f = Kept w f.1
-Right (R.FunctionStatement c w comments first at is_private) f = Kept w f.1
-Right (R.Statements closing c w before) fs = Kept w fs.1
-Right _ x = Unit {0}
+abbrev KeepsRight : (g : Goal) → Val g → Type 0
+KeepsRight (R.Definition c w at k e) f = KeptSlots w f.1
+KeepsRight (R.Import c w at) f = KeptSlots w f.1
+KeepsRight (R.Export c w at) f = KeptSlots w f.1
+KeepsRight (R.Statement c w) f = KeptSlots w f.1
+KeepsRight (R.FunctionStatement c w comments first at is_private) f = KeptSlots w f.1
+KeepsRight (R.Statements closing c w before) fs = KeptSlots w fs.1
+KeepsRight _ x = Unit {0}
 
 export : (c : Context) (w : Live) (at : Position) (v : Option Bool)
-    → Always Right (λ f. Kept w f.1) (P.export_by c w at v)
+    → Always KeepsRight (λ f. KeptSlots w f.1) (P.export_by c w at v)
 export c w at (Some constant) = λ l pos f h. h
 export c w at None = λ l p other h. kept_exported (text_of l) (unwrap_or other []) w
 
 documented : (c : Context) (w : Live) (comments : List Comment) (at : Position) (v : StatementStart)
-    → Always Right (λ f. Kept w f.1) (P.documented_by c w comments at v)
+    → Always KeepsRight (λ f. KeptSlots w f.1) (P.documented_by c w comments at v)
 documented c w comments at start.Function = λ l p f h. h
 documented c w comments at start.Private = λ l p m q f h. h
 documented c w comments at _ = tt
 
-statement : (c : Context) (w : Live) (v : StatementStart) → Always Right (λ f. Kept w f.1) (P.statement_by c w v)
+statement : (c : Context) (w : Live) (v : StatementStart) → Always KeepsRight (λ f. KeptSlots w f.1) (P.statement_by c w v)
 statement c w start.Empty = λ l at. same w
 statement c w (start.Construct kind) = λ l at f h. same w
 statement c w start.Let = λ l at f h. h
@@ -219,35 +219,35 @@ statement c w start.Private = λ l at m p f h. h
 statement c w start.Comment = λ l at comments h v. documented c w comments at v
 statement c w start.Expression = λ at f h. same w
 
-separated : (closing : Closing) (c : Context) (u w : Live) (fs : node.Statements) (v : AfterStatement) → Kept u w
-    → Always Right (λ r. Kept u r.1) (P.separated closing c w fs v)
+separated : (closing : Closing) (c : Context) (u w : Live) (fs : node.Statements) (v : AfterStatement) → KeptSlots u w
+    → Always KeepsRight (λ r. KeptSlots u r.1) (P.separated closing c w fs v)
 separated closing c u w fs ends.SemiColon k = λ l at r h. on u w r.1 k h
 separated closing c u w fs ends.Close k = k
 separated closing c u w fs ends.Nothing k = tt
 
-after_one : (closing : Closing) (c : Context) (u w : Live) (fs : node.Statements) (b : Bool) → Kept u w
-    → Always Right (λ r. Kept u r.1) (P.after_one closing c w fs b)
+after_one : (closing : Closing) (c : Context) (u w : Live) (fs : node.Statements) (b : Bool) → KeptSlots u w
+    → Always KeepsRight (λ r. KeptSlots u r.1) (P.after_one closing c w fs b)
 after_one closing c u w fs true k = λ r h. on u w r.1 k h
 after_one closing c u w fs false k = λ v. separated closing c u w fs v k
 
 statements : (closing : Closing) (c : Context) (w : Live) (fs : node.Statements) (v : StatementRole)
-    → Always Right (λ r. Kept w r.1) (P.statements closing c w fs v)
+    → Always KeepsRight (λ r. KeptSlots w r.1) (P.statements closing c w fs v)
 statements closing c w fs stands.Close = same w
 statements closing c w fs stands.Statement =
     λ f h. after_one closing c w f.1 (with_kept fs f.0) (ends_itself f.0) h
 statements closing c w fs stands.Nothing = tt
 
-table : (g : Goal) → Always Right (λ x. Right g x) (production g)
+table : (g : Goal) → Always KeepsRight (λ x. KeepsRight g x) (production g)
 table (R.Definition c w at k e) = λ n h x i. kept_as e n.0 k w
 table (R.Import c w at) = λ x h other i. kept_import other w
 table (R.Export c w at) = λ v. export c w at v
 table (R.Statement c w) = λ v. statement c w v
 table (R.FunctionStatement c w comments first at is_private) = λ f h. same w
 table (R.Statements closing c w before) = λ v. statements closing c w before v
-table g = trivially Right (λ x. Unit {0}) (production g) (λ x. tt)
+table g = trivially KeepsRight (λ x. Unit {0}) (production g) (λ x. tt)
 
-kept : {g : Goal} {x : Val g} → D.Form production g x → Right g x
-kept f = always Right production table f
+kept : {g : Goal} {x : Val g} → D.Form production g x → KeepsRight g x
+kept f = always KeepsRight production table f
 
 -- ---- the law
 
@@ -307,13 +307,13 @@ catch_grows None w = omega arith
 catch_grows (Some name) w = omega (arith, length-append w.slots (fresh_slot name false ∷ []))
 
 -- A block gives back what is live around it.
-closes : (w v : Live) → Kept (in_block w) v → GivesBack w v
+closes : (w v : Live) → KeptSlots (in_block w) v → GivesBack w v
 closes w v k =
     gives w v ((k.slots (omega arith)).0 ∙ take_all (length w.slots) w.slots (omega arith)) k.imports.0
 
 -- So it does what is live around something that gives back no less.
 closes_in : (w u v : Live) → GivesBack w u → length w.slots ≤ length u.slots → u.imports ≡ w.imports
-    → Kept (in_block u) v → GivesBack w v
+    → KeptSlots (in_block u) v → GivesBack w v
 closes_in w u v h l i k =
     let back = closes u v k in
     gives w v

@@ -22,7 +22,7 @@ use Rattle.rhai_grammar_reading.proofs.Shows.{Histories, Shows, Tells, Ensures, 
 use Rattle.rhai_grammar_reading.proofs.Shows.{take, look}
 use Rattle.rhai_grammar_reading.proofs.Shows.{know, add, note, either, text_taken, text_at, called, called_apart}
 use Rattle.rhai_grammar_reading.proofs.Shows.{called_literal}
-use Rattle.rhai_grammar.specs.Productions.{Production, View, Seen, view}
+use Rattle.rhai_grammar.specs.Productions.{Production, View, SeenBy, view}
 use Rattle.rhai_grammar.specs.Productions as S
 use Rattle.rhai_grammar.specs.Rules.{production}
 use Rattle.rhai_grammar.specs.Forms as F
@@ -178,7 +178,7 @@ module _ (rule : (g : Goal) → Production (Val g)) where
         let fits : Fits (only_if_not t) s = fine m (ap (λ b. if b then Otherwise else Fine) not) in
         then_ h q (S.if_next t p q) s s (λ tree f. (F.if_not f, λ j o w. fits ▹ w)) (g.seen s m))
 
-    choose_seen : (h : Goal) (v : View) (k : Seen v → Production (Val h)) → ((y : Seen v) → Both call h (k y))
+    choose_seen : (h : Goal) (v : View) (k : SeenBy v → Production (Val h)) → ((y : SeenBy v) → Both call h (k y))
         → (s : Point) → Told h (S.choose v k) s
     choose_seen h v k rest s m =
         let l = op_at s in

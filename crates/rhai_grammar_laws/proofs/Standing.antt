@@ -11,7 +11,7 @@ use Rattle.rhai_grammar.proofs.PositionWays.{BlamesAt, Places, Refusing, AtToken
 use Rattle.rhai_grammar.proofs.PositionWays.{literally, next, shape, test_in, tok, FaultAt}
 use Rattle.rhai_grammar.proofs.PositionWays as W
 use Rattle.rhai_grammar_reading.specs.Reading.{Goal, Val}
-use Rattle.rhai_grammar.specs.Productions.{Production, Seen, view}
+use Rattle.rhai_grammar.specs.Productions.{Production, SeenBy, view}
 use Rattle.rhai_grammar.specs.Productions as S
 use Rattle.rhai_grammar.specs.Forms as F
 use Rattle.rhai_grammar.specs.Forms.{given, take, this, if_so, if_not, choose, must, checked, knows, adds, uses}
@@ -76,7 +76,7 @@ module _ (G : Position → Type 0) (Wants : Goal → Type 0) (Right : (g : Goal)
   Allows R (S.never why) = Unit {0}
   Allows R (S.take w m k) = (l : Lexeme) (at : Position) → G at → Allows R (k l at)
   Allows R (S.this k) = (l : Lexeme) (at : Position) → G at → Allows R (k l at)
-  Allows R (S.choose v k) = (y : Seen v) → Allows R (k y)
+  Allows R (S.choose v k) = (y : SeenBy v) → Allows R (k y)
   Allows R (S.if_next t p q) = Allows R p × Allows R q
   Allows R (S.here k) = (at : Position) → G at → Allows R (k at)
   Allows R (S.must b e p) = (b ≡ false → G e.at) × Allows R p

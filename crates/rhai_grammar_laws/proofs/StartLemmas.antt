@@ -15,11 +15,11 @@ use Rattle.rhai_grammar_laws.specs.Kept.{Keeps}
 use Rattle.rhai_grammar.specs.Forms as D
 use Rattle.rhai_grammar_laws.proofs.Keeping.{holds, trivially}
 
-abbrev Right : (g : Goal) → Val g → (first next : Lexeme) → Type 0
-Right (R.Expression c w) x l n = starts c l ≡ true
-Right (R.Operand c w) x l n = starts c l ≡ true
-Right (R.Primary c w) x l n = starts c l ≡ true
-Right _ x l n = Unit {0}
+abbrev StartsRight : (g : Goal) → Val g → (first next : Lexeme) → Type 0
+StartsRight (R.Expression c w) x l n = starts c l ≡ true
+StartsRight (R.Operand c w) x l n = starts c l ≡ true
+StartsRight (R.Primary c w) x l n = starts c l ≡ true
+StartsRight _ x l n = Unit {0}
 
 abbrev Good : Ended → Type 0
 Good x = Unit {0}
@@ -30,11 +30,11 @@ begun c (Faulty f) v e h = refl
 begun c _ v e h = ap (begins c) e ∙ h
 
 abbrev Begins : Context → {A : Type 0} → Production A → Lexeme → Type 0
-Begins c p n = Keeps Right Good (λ x next. starts c n ≡ true) p n
+Begins c p n = Keeps StartsRight Good (λ x next. starts c n ≡ true) p n
 
 -- whatever is given
 so : (c : Context) (n : Lexeme) {A : Type 0} (p : Production A) → starts c n ≡ true → Begins c p n
-so c n p h = trivially Right (λ x next. starts c n ≡ true) p n (λ x m. h)
+so c n p h = trivially StartsRight (λ x next. starts c n ≡ true) p n (λ x m. h)
 
 -- what is written only where the test holds
 where_it_may : (c : Context) (n : Lexeme) {A : Type 0} (b : Bool) (p q : Production A) → (b ≡ true → starts c n ≡ true)
@@ -55,12 +55,12 @@ operand : (c : Context) (w : Live) (v : Beginning) (n : Lexeme) → beginning n 
 operand c w begin.Sign n e = so c n (P.operand_by c w begin.Sign) (begun c n begin.Sign e refl)
 operand c w _ n e = λ x m h y o k ls q j fault. h
 
-table : (g : Goal) (n : Lexeme) → Keeps Right Good (λ x next. Right g x n next) (production g) n
+table : (g : Goal) (n : Lexeme) → Keeps StartsRight Good (λ x next. StartsRight g x n next) (production g) n
 table (R.Expression c w) n = λ at room x m h y o k. h
 table (R.Operand c w) n = λ v e. operand c w v n e
 table (R.Primary c w) n = λ v e. primary c w v n e
-table g n = trivially Right (λ x next. Unit {0}) (production g) n (λ x m. tt)
+table g n = trivially StartsRight (λ x next. Unit {0}) (production g) n (λ x m. tt)
 
 pub begins_so : (c : Context) (w : Live) (x : Node) (f : D.Form production (R.Expression c w) x) (s t : Point)
     → Met (D.demands production f Nothing) s t → starts c (next_at code s).lexeme ≡ true
-begins_so c w x f s t m = holds Right production table f s t m
+begins_so c w x f s t m = holds StartsRight production table f s t m

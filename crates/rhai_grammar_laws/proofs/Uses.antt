@@ -23,7 +23,7 @@ use Rattle.rhai_grammar_laws.proofs.NumbersOfOperands.{is_true_of}
 use Rattle.rhai_grammar_laws.proofs.Passing.{leaves_its}
 use Rattle.rhai_grammar_laws.proofs.Using as U
 use Rattle.rhai_grammar_laws.proofs.Using.{Keeps}
-use Rattle.rhai_grammar_laws.proofs.UsesOfOperands.{Good, Right, binary, by_either, call_of, call_path, called, element}
+use Rattle.rhai_grammar_laws.proofs.UsesOfOperands.{Good, UsesRight, binary, by_either, call_of, call_path, called, element}
 use Rattle.rhai_grammar_laws.proofs.UsesOfOperands.{field, follower, key, links, operand, parted, path_excludes}
 use Rattle.rhai_grammar_laws.proofs.UsesOfOperands.{primary}
 use Rattle.rhai_grammar_laws.proofs.UsesOfOperands.{right}
@@ -35,7 +35,7 @@ still_variable : (imports : List Text) (x : Node) (t : Text) (p : Position) → 
 still_variable imports (node.variable v q) t p e = refl
 still_variable imports _ t p e = absurd cc
 
-pub table : (g : Goal) (n : Lexeme) → Keeps Right Good g (λ x next us. Right g x n next us) (production g) n [] []
+pub table : (g : Goal) (n : Lexeme) → Keeps UsesRight Good g (λ x next us. UsesRight g x n next us) (production g) n [] []
 unfolding mentions
 table (R.Whole c w) n = λ x m us h. (λ e. h, λ e. tt)
 table (R.Expression c w) n = λ at room x m us h y o vs k. on h k
@@ -135,7 +135,7 @@ table (R.ClosureBody c w) n = (λ e at. none, λ e f m us h. h)
 
 -- ---- the law
 
-all_read : (ws : List WrittenFunction) → U.AllGood Right Good ws → AllReadTheirUses ws
+all_read : (ws : List WrittenFunction) → U.AllGood UsesRight Good ws → AllReadTheirUses ws
 all_read [] h = tt
 all_read (w ∷ ws) h = (λ name. ap (is_read name) (whole_block w.ended.function.body) ∙ h.0.is name, all_read ws h.1)
 
@@ -143,5 +143,5 @@ pub functions_read_their_uses : FunctionsReadTheirUses
 functions_read_their_uses = record {
   functions = λ c w x f s t m.
       (leaves_its production (Script c w) x f s t m).library ∙ ap (λ xs. s.library ++ xs) (U.functions_end f);
-  uses = λ c w x f s t m. all_read (functions_in production f) (U.right Right Good table f Nothing s t m).all;
+  uses = λ c w x f s t m. all_read (functions_in production f) (U.right UsesRight Good table f Nothing s t m).all;
 }

@@ -58,54 +58,54 @@ uncalled x next = if is_variable x && excludes_use next then [] else mentions x
 
 -- Where it begins at this token, what is given for a goal mentions what was before, and the names that are used in its
 -- form. An operand that is called is no use of a name.
-abbrev pub Right : (g : Goal) → Val g → (first next : Lexeme) → List Text → Type 0
-Right (R.Whole c w) x l n us = Only (mentions x) us
-Right (R.Expression c w) x l n us = Only (mentions x) us
-Right (R.Operand c w) x l n us = Only (mentions x) us
-Right (R.RightOperand c w place) x l n us = Only (mentions x) us
-Right (R.Primary c w) x l n us = (is_variable x && excludes_use n) ≡ false → Only (mentions x) us
-Right (R.Called c w at q) x l n us = Only (all_mentions x.1) us
-Right (R.Path w y) x l n us = Only [] us × (is_variable y ≡ true → Silent (mentions x))
-Right (R.Links w spot) ls l n us = More (link_mentions spot.before) (link_mentions ls) us
-Right (R.Index c w indexed) x l n us = Only (mentions x) us
-Right (R.Member c w) x l n us = Only (mentions x) us
-Right (R.Postfix c w y) x l n us = More (uncalled y l) (mentions x) us
-Right (R.Arguments c w at) xs l n us = Only (all_mentions xs) us
-Right (R.Items c w before) xs l n us = More (all_mentions before) (all_mentions xs) us
-Right (R.Elements c w at before) xs l n us = More (all_mentions before) (all_mentions xs) us
-Right (R.Fields c w at before) xs l n us = More (property_mentions before) (property_mentions xs) us
-Right (R.Segments c w at before) xs l n us = More (all_mentions before) (all_mentions xs) us
-Right (R.Jump c w at) x l n us = Only (optional_mentions x) us
-Right (R.BinaryOp c w at parent lhs) x l n us = More (mentions lhs) (mentions x) us
-Right (R.ExprStatement c w) f l n us = Only (statement_mentions f) us
-Right (R.Initializer c w at) x l n us = Only (mentions x) us
-Right (R.Definition c w at constant exported) f l n us = Only (statement_mentions f.0) us
-Right (R.Import c w at) f l n us = Only (statement_mentions f.0) us
-Right (R.Export c w at) f l n us = Only (statement_mentions f.0) us
-Right (R.Statement c w) f l n us = Only (statement_mentions f.0) us
-Right (R.Statements closing c w before) fs l n us = More (statements_mentions before) (statements_mentions fs.0) us
-Right (R.Inside c w) fs l n us = Only (statements_mentions fs) us
-Right (R.Block c w at) b l n us = Only (body_mentions b) us
-Right (R.BlockEnd at fs) b l n us = More (statements_mentions fs) (body_mentions b) us
-Right (R.Construct c w at kind) f l n us = Only (statement_mentions f) us
-Right (R.Braced c w at) b l n us = Only (body_mentions b) us
-Right (R.Guard c w) x l n us = Only (mentions x) us
-Right (R.Iterated c w) x l n us = Only (mentions x) us
-Right (R.Conditional c w at) f l n us = Only (statement_mentions f) us
-Right (R.Branch c w at) b l n us = Only (body_mentions b) us
-Right (R.Arms c w before) x l n us = More (collected_mentions before) (collected_mentions x) us
-Right (R.Arm c w before) a l n us =
+abbrev pub UsesRight : (g : Goal) → Val g → (first next : Lexeme) → List Text → Type 0
+UsesRight (R.Whole c w) x l n us = Only (mentions x) us
+UsesRight (R.Expression c w) x l n us = Only (mentions x) us
+UsesRight (R.Operand c w) x l n us = Only (mentions x) us
+UsesRight (R.RightOperand c w place) x l n us = Only (mentions x) us
+UsesRight (R.Primary c w) x l n us = (is_variable x && excludes_use n) ≡ false → Only (mentions x) us
+UsesRight (R.Called c w at q) x l n us = Only (all_mentions x.1) us
+UsesRight (R.Path w y) x l n us = Only [] us × (is_variable y ≡ true → Silent (mentions x))
+UsesRight (R.Links w spot) ls l n us = More (link_mentions spot.before) (link_mentions ls) us
+UsesRight (R.Index c w indexed) x l n us = Only (mentions x) us
+UsesRight (R.Member c w) x l n us = Only (mentions x) us
+UsesRight (R.Postfix c w y) x l n us = More (uncalled y l) (mentions x) us
+UsesRight (R.Arguments c w at) xs l n us = Only (all_mentions xs) us
+UsesRight (R.Items c w before) xs l n us = More (all_mentions before) (all_mentions xs) us
+UsesRight (R.Elements c w at before) xs l n us = More (all_mentions before) (all_mentions xs) us
+UsesRight (R.Fields c w at before) xs l n us = More (property_mentions before) (property_mentions xs) us
+UsesRight (R.Segments c w at before) xs l n us = More (all_mentions before) (all_mentions xs) us
+UsesRight (R.Jump c w at) x l n us = Only (optional_mentions x) us
+UsesRight (R.BinaryOp c w at parent lhs) x l n us = More (mentions lhs) (mentions x) us
+UsesRight (R.ExprStatement c w) f l n us = Only (statement_mentions f) us
+UsesRight (R.Initializer c w at) x l n us = Only (mentions x) us
+UsesRight (R.Definition c w at constant exported) f l n us = Only (statement_mentions f.0) us
+UsesRight (R.Import c w at) f l n us = Only (statement_mentions f.0) us
+UsesRight (R.Export c w at) f l n us = Only (statement_mentions f.0) us
+UsesRight (R.Statement c w) f l n us = Only (statement_mentions f.0) us
+UsesRight (R.Statements closing c w before) fs l n us = More (statements_mentions before) (statements_mentions fs.0) us
+UsesRight (R.Inside c w) fs l n us = Only (statements_mentions fs) us
+UsesRight (R.Block c w at) b l n us = Only (body_mentions b) us
+UsesRight (R.BlockEnd at fs) b l n us = More (statements_mentions fs) (body_mentions b) us
+UsesRight (R.Construct c w at kind) f l n us = Only (statement_mentions f) us
+UsesRight (R.Braced c w at) b l n us = Only (body_mentions b) us
+UsesRight (R.Guard c w) x l n us = Only (mentions x) us
+UsesRight (R.Iterated c w) x l n us = Only (mentions x) us
+UsesRight (R.Conditional c w at) f l n us = Only (statement_mentions f) us
+UsesRight (R.Branch c w at) b l n us = Only (body_mentions b) us
+UsesRight (R.Arms c w before) x l n us = More (collected_mentions before) (collected_mentions x) us
+UsesRight (R.Arm c w before) a l n us =
     (are_literal_values a.0 ≡ true) × Only (mentions a.1 ++ mentions a.2) us
-Right (R.DefaultArm c w default) x l n us = Only (mentions x) us
-Right (R.Cases c w before) xs l n us = More (all_mentions before) (all_mentions xs) us
-Right (R.Case c w) x l n us = Only (mentions x) us
-Right (R.CaseGuard c w) x l n us = Only (mentions x) us
-Right (R.Action c w) x l n us = Only (mentions x.0) us
-Right (R.FunctionStatement c w comments first at is_private) f l n us = Only (statement_mentions f.0) us
-Right (R.Function c comments at is_private) x l n us = Only (body_mentions x.function.body) us
-Right (R.Closure c w at by) x l n us = Only (mentions x) us
-Right (R.ClosureBody c w) f l n us = Only (statement_mentions f) us
-Right _ x l n us = Only [] us
+UsesRight (R.DefaultArm c w default) x l n us = Only (mentions x) us
+UsesRight (R.Cases c w before) xs l n us = More (all_mentions before) (all_mentions xs) us
+UsesRight (R.Case c w) x l n us = Only (mentions x) us
+UsesRight (R.CaseGuard c w) x l n us = Only (mentions x) us
+UsesRight (R.Action c w) x l n us = Only (mentions x.0) us
+UsesRight (R.FunctionStatement c w comments first at is_private) f l n us = Only (statement_mentions f.0) us
+UsesRight (R.Function c comments at is_private) x l n us = Only (body_mentions x.function.body) us
+UsesRight (R.Closure c w at by) x l n us = Only (mentions x) us
+UsesRight (R.ClosureBody c w) f l n us = Only (statement_mentions f) us
+UsesRight _ x l n us = Only [] us
 
 -- the body of a function reads these names
 abbrev pub Good : Ended → List Text → Type 0
@@ -113,11 +113,11 @@ Good e us = Only (body_mentions e.function.body) us
 
 abbrev pub KeepsIn : (h : Goal) → (Val h → List Text → Type 0) → Production (Val h) → Lexeme → (own names : List Text)
     → Type 0
-KeepsIn h R p n own names = Keeps Right Good h (λ x next us. R x us) p n own names
+KeepsIn h R p n own names = Keeps UsesRight Good h (λ x next us. R x us) p n own names
 
 pub by_either : (h : Goal) (R : Val h → Lexeme → List Text → Type 0) (b : Bool) (p q : Production (Val h)) (n : Lexeme)
-    (own names : List Text) → Keeps Right Good h R p n own names → Keeps Right Good h R q n own names
-    → Keeps Right Good h R (if b then p else q) n own names
+    (own names : List Text) → Keeps UsesRight Good h R p n own names → Keeps UsesRight Good h R q n own names
+    → Keeps UsesRight Good h R (if b then p else q) n own names
 by_either h R true p q n own names f g = f
 by_either h R false p q n own names f g = g
 
@@ -198,7 +198,7 @@ name_kept w true t at n e = not_both true (excludes_use n) refl e
 name_kept w false t at n e = λ c. variable t at w.slots
 
 pub primary : (c : Context) (w : Live) (v : Beginning) (n : Lexeme)
-    → Keeps Right Good (R.Primary c w) PrimaryRight (P.primary_by c w v) n [] []
+    → Keeps UsesRight Good (R.Primary c w) PrimaryRight (P.primary_by c w v) n [] []
 unfolding mentions
 primary c w begin.Value n = λ at m e. same (value n at) none
 primary c w begin.Name n = λ at m b e. name_kept w b (text_of n) at m e

@@ -10,7 +10,7 @@ use Rattle.rhai_grammar.specs.Delivered as M
 use Rattle.rhai_grammar_reading.specs.Reading as R
 use Rattle.rhai_grammar_reading.specs.Reading.{Goal, Val}
 use Rattle.rhai_grammar_reading.proofs.Looks.{fine, no_other, op_at, or_wrong}
-use Rattle.rhai_grammar.specs.Productions.{Production, Seen, view}
+use Rattle.rhai_grammar.specs.Productions.{Production, SeenBy, view}
 use Rattle.rhai_grammar.specs.Productions as S
 use Rattle.rhai_grammar.specs.Rules.{production}
 use Rattle.rhai_grammar.specs.Forms as F
@@ -123,7 +123,7 @@ module _ (Right : (g : Goal) → Val g → (first next : Lexeme) → (names : Li
   Keeps h R (S.this k) n own names = (at : Position) (next : Lexeme) → Keeps h R (k n at) next own names
   Keeps h R (S.if_next t p q) n own names =
       (t n ≡ true → Keeps h R p n own names) × (t n ≡ false → Keeps h R q n own names)
-  Keeps h R (S.choose v k) n own names = (y : Seen v) → view v n ≡ y → Keeps h R (k y) n own names
+  Keeps h R (S.choose v k) n own names = (y : SeenBy v) → view v n ≡ y → Keeps h R (k y) n own names
   Keeps h R (S.here k) n own names = (at : Position) → Keeps h R (k at) n own names
   Keeps h R (S.must b e p) n own names = b ≡ true → Keeps h R p n own names
   Keeps h R (S.checked e p) n own names = e ≡ None → Keeps h R p n own names
@@ -154,19 +154,19 @@ module _ (Right : (g : Goal) → Val g → (first next : Lexeme) → (names : Li
 
   -- this holds where a form ends, of the token that follows, and others are met from there on; and so it is in each of
   -- these functions
-  pub record Kept (R : Lexeme → Type 0) (ws : List WrittenFunction) (k : Demands) (t : Point) : Type 0 where
+  pub record KeptUses (R : Lexeme → Type 0) (ws : List WrittenFunction) (k : Demands) (t : Point) : Type 0 where
     pub end : Point
     pub met : Met k end t
     pub right : R (op_at end)
     pub all : AllGood ws
 
   -- nothing is met after it
-  pub ended : (R : Lexeme → Type 0) {ws : List WrittenFunction} (u : Point) → Kept R ws Nothing u → R (op_at u)
+  pub ended : (R : Lexeme → Type 0) {ws : List WrittenFunction} (u : Point) → KeptUses R ws Nothing u → R (op_at u)
   ended R u a = subst (λ (p : Point). R (op_at p)) a.met a.right
 
   -- the same of other functions
   beside : {R : Lexeme → Type 0} {us : List WrittenFunction} {k : Demands} {t : Point} (ws : List WrittenFunction)
-      → AllGood ws → Kept R us k t → Kept R ws k t
+      → AllGood ws → KeptUses R us k t → KeptUses R ws k t
   beside ws h r = record { end = r.end; met = r.met; right = r.right; all = h }
 
   through : {h : Goal} (g : Goal) (x : Val g) {p : Production (Val h)} {y : Val h} (f : F.Filled production h p y)
@@ -182,7 +182,7 @@ module _ (Right : (g : Goal) → Val g → (first next : Lexeme) → (names : Li
     -- names that come one after the other
     grouped : {h : Goal} {x : Val h} {a : Lexeme} {ws : List WrittenFunction} {k : Demands} {t : Point}
         (us vs ns : List Text) {all : List Text} → all ≡ vs ++ ns
-        → Kept (λ next. Right h x a next ((us ++ vs) ++ ns)) ws k t → Kept (λ next. Right h x a next (us ++ all)) ws k t
+        → KeptUses (λ next. Right h x a next ((us ++ vs) ++ ns)) ws k t → KeptUses (λ next. Right h x a next (us ++ all)) ws k t
     grouped {h = h} {x = x} {a = a} us vs ns e r = record {
       end = r.end;
       met = r.met;
@@ -194,7 +194,7 @@ module _ (Right : (g : Goal) → Val g → (first next : Lexeme) → (names : Li
     -- the same names
     renamed : {h : Goal} {x : Val h} {a : Lexeme} {ws : List WrittenFunction} {k : Demands} {t : Point}
         (us : List Text) {ns all : List Text} → all ≡ ns
-        → Kept (λ next. Right h x a next (us ++ ns)) ws k t → Kept (λ next. Right h x a next (us ++ all)) ws k t
+        → KeptUses (λ next. Right h x a next (us ++ ns)) ws k t → KeptUses (λ next. Right h x a next (us ++ all)) ws k t
     renamed {h = h} {x = x} {a = a} us e r = record {
       end = r.end;
       met = r.met;
@@ -205,13 +205,13 @@ module _ (Right : (g : Goal) → Val g → (first next : Lexeme) → (names : Li
     mutual
       pub right : {g : Goal} {x : Val g} (f : F.Form production g x) (k : Demands) (s t : Point)
           → Met (F.demands production f k) s t
-          → Kept (λ next. Right g x (op_at s) next (free_names (uses_in production f))) (functions_in production f) k t
+          → KeptUses (λ next. Right g x (op_at s) next (free_names (uses_in production f))) (functions_in production f) k t
       right (form {g = g} {x = x} f) k s t m = keeps f (op_at s) [] [] k s t m (table g (op_at s))
 
       keeps : {h : Goal} {p : Production (Val h)} {x : Val h} (f : F.Filled production h p x) (a : Lexeme)
           (own names : List Text) (k : Demands) (s t : Point) → Met (F.demanded production f k) s t
           → Keeps h (λ y next us. Right h y a next us) p (op_at s) own names
-          → Kept (λ next. Right h x a next (names ++ free_names (uses_of production f)))
+          → KeptUses (λ next. Right h x a next (names ++ free_names (uses_of production f)))
           (functions_of production f own) k t
       keeps (given {h = j} {x = x}) a own names k s t m h = record {
         end = s;

@@ -25,10 +25,10 @@ use Rattle.rhai_grammar_laws.specs.StreamLaws.{StreamsAreWhole}
 use Rattle.rhai_grammar_laws.proofs.Keeping.{holds, trivially}
 use Rattle.rhai_grammar_laws.proofs.Passing.{leaves_its}
 
-abbrev Right : (g : Goal) → Val g → (first next : Lexeme) → Type 0
-Right (R.Whole c w) x l n = is_end n ≡ true
-Right (R.Statements EndMark c w before) fs l n = is_end n ≡ true
-Right _ x l n = Unit {0}
+abbrev EndsRight : (g : Goal) → Val g → (first next : Lexeme) → Type 0
+EndsRight (R.Whole c w) x l n = is_end n ≡ true
+EndsRight (R.Statements EndMark c w before) fs l n = is_end n ≡ true
+EndsRight _ x l n = Unit {0}
 
 abbrev Good : Ended → Type 0
 Good x = Unit {0}
@@ -42,7 +42,7 @@ after_ends (Sign token.EOF) e = refl
 after_ends _ e = absurd cc
 
 abbrev AtEnd : {A : Type 0} → Production A → Lexeme → Type 0
-AtEnd p n = Keeps Right Good (λ x next. is_end next ≡ true) p n
+AtEnd p n = Keeps EndsRight Good (λ x next. is_end next ≡ true) p n
 
 separated : (c : Context) (w : Live) (fs : node.Statements) (v : AfterStatement) (n : Lexeme)
     → token_after_statement EndMark n ≡ v → AtEnd (P.separated EndMark c w fs v) n
@@ -61,10 +61,10 @@ statements c w fs stands.Close n e = place_ends n e
 statements c w fs stands.Statement n e = λ f m h. after_one c f.1 (with_kept fs f.0) (ends_itself f.0) m
 statements c w fs stands.Nothing n e = tt
 
-table : (g : Goal) (n : Lexeme) → Keeps Right Good (λ x next. Right g x n next) (production g) n
+table : (g : Goal) (n : Lexeme) → Keeps EndsRight Good (λ x next. EndsRight g x n next) (production g) n
 table (R.Whole c w) n = λ x m h. (λ e. e, λ e. tt)
 table (R.Statements EndMark c w before) n = λ v e. statements c w before v n e
-table g n = trivially Right (λ x next. Unit {0}) (production g) n (λ x m. tt)
+table g n = trivially EndsRight (λ x next. Unit {0}) (production g) n (λ x m. tt)
 
 -- ---- delivered streams
 
@@ -93,6 +93,6 @@ whole {g = g} {x = x} f s t d m e =
 
 pub streams_are_whole : StreamsAreWhole
 streams_are_whole = record {
-  expression = λ c w x f s t d m. whole f s t d m (holds Right production table f s t m);
-  script = λ c w x f s t d m. whole f s t d m (holds Right production table f s t m);
+  expression = λ c w x f s t d m. whole f s t d m (holds EndsRight production table f s t m);
+  script = λ c w x f s t d m. whole f s t d m (holds EndsRight production table f s t m);
 }

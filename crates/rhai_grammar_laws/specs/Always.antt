@@ -2,7 +2,7 @@
 use Rattle.std.specs.Prelude.{ℕ, Bool, List}
 use Rattle.rhai_grammar.specs.Prelude.{Lexeme, Position, Use}
 use Rattle.rhai_grammar.specs.Goals.{Goal, Val}
-use Rattle.rhai_grammar.specs.Productions.{Production, View, Seen}
+use Rattle.rhai_grammar.specs.Productions.{Production, View, SeenBy}
 use Rattle.rhai_grammar.specs.Productions as S
 
 -- `Right` holds of the tree of each part.
@@ -14,7 +14,7 @@ module _ (Right : (g : Goal) → Val g → Type 0) where
   Always R (S.take w m k) = (l : Lexeme) (at : Position) → Always R (k l at)
   Always R (S.this k) = (l : Lexeme) (at : Position) → Always R (k l at)
   Always R (S.if_next t p q) = Always R p × Always R q
-  Always R (S.choose v k) = (y : Seen v) → Always R (k y)
+  Always R (S.choose v k) = (y : SeenBy v) → Always R (k y)
   Always R (S.here k) = (at : Position) → Always R (k at)
   Always R (S.must b e p) = Always R p
   Always R (S.checked e p) = Always R p

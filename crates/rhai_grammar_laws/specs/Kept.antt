@@ -3,7 +3,7 @@
 use Rattle.std.specs.Prelude.{◌≡◌, ℕ, Bool, true, false, List, None}
 use Rattle.rhai_grammar.specs.Prelude.{Lexeme, Position, Use, Ended}
 use Rattle.rhai_grammar.specs.Goals.{Goal, Val}
-use Rattle.rhai_grammar.specs.Productions.{Production, View, Seen, view}
+use Rattle.rhai_grammar.specs.Productions.{Production, View, SeenBy, view}
 use Rattle.rhai_grammar.specs.Productions as S
 
 -- `Right` holds of the tree of each part, `Good` of each function that ends.
@@ -16,7 +16,7 @@ module _ (Right : (g : Goal) → Val g → (first next : Lexeme) → Type 0) (Go
   Keeps R (S.take w m k) n = w n ≡ true → (at : Position) (next : Lexeme) → Keeps R (k n at) next
   Keeps R (S.this k) n = (at : Position) (next : Lexeme) → Keeps R (k n at) next
   Keeps R (S.if_next t p q) n = (t n ≡ true → Keeps R p n) × (t n ≡ false → Keeps R q n)
-  Keeps R (S.choose v k) n = (y : Seen v) → view v n ≡ y → Keeps R (k y) n
+  Keeps R (S.choose v k) n = (y : SeenBy v) → view v n ≡ y → Keeps R (k y) n
   Keeps R (S.here k) n = (at : Position) → Keeps R (k at) n
   Keeps R (S.must b e p) n = b ≡ true → Keeps R p n
   Keeps R (S.checked e p) n = e ≡ None → Keeps R p n

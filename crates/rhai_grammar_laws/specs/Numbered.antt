@@ -33,57 +33,57 @@ UnlessCalled ns x next = (is_variable x && excludes_use next) ≡ false → Well
 
 -- What holds of what is given for a goal, by the tokens at which it begins and that follow it. What is added to a list
 -- or a tree keeps that right.
-abbrev pub Right : (g : Goal) → Val g → (first next : Lexeme) → Type 0
-Right (R.Whole context live) x l n = WellNumbered (names live) x
-Right (R.Expression context live) x l n = WellNumbered (names live) x
-Right (R.Operand context live) x l n = WellNumbered (names live) x
-Right (R.RightOperand context live place) x l n = WellNumbered (names live) x
-Right (R.Primary context live) x l n = UnlessCalled (names live) x n
-Right (R.Called context live at q) x l n = AllWellNumbered (names live) x.1
-Right (R.Path live y) x l n = is_variable y ≡ true → WellNumbered (names live) x
-Right (R.Links live spot) ls l n = AllLinks (names live) spot.before → AllLinks (names live) ls
-Right (R.Index context live indexed) x l n = WellNumbered (names live) x
-Right (R.Member context live) x l n = WellNumbered (names live) x
-Right (R.Postfix context live y) x l n = UnlessCalled (names live) y l → WellNumbered (names live) x
-Right (R.Arguments context live at) xs l n = AllWellNumbered (names live) xs
-Right (R.Items context live before) xs l n = AllWellNumbered (names live) before → AllWellNumbered (names live) xs
-Right (R.Elements context live at before) xs l n = AllWellNumbered (names live) before → AllWellNumbered (names live) xs
-Right (R.Fields context live at before) xs l n = WellNumberedProperties (names live) before
+abbrev pub NumberedRight : (g : Goal) → Val g → (first next : Lexeme) → Type 0
+NumberedRight (R.Whole context live) x l n = WellNumbered (names live) x
+NumberedRight (R.Expression context live) x l n = WellNumbered (names live) x
+NumberedRight (R.Operand context live) x l n = WellNumbered (names live) x
+NumberedRight (R.RightOperand context live place) x l n = WellNumbered (names live) x
+NumberedRight (R.Primary context live) x l n = UnlessCalled (names live) x n
+NumberedRight (R.Called context live at q) x l n = AllWellNumbered (names live) x.1
+NumberedRight (R.Path live y) x l n = is_variable y ≡ true → WellNumbered (names live) x
+NumberedRight (R.Links live spot) ls l n = AllLinks (names live) spot.before → AllLinks (names live) ls
+NumberedRight (R.Index context live indexed) x l n = WellNumbered (names live) x
+NumberedRight (R.Member context live) x l n = WellNumbered (names live) x
+NumberedRight (R.Postfix context live y) x l n = UnlessCalled (names live) y l → WellNumbered (names live) x
+NumberedRight (R.Arguments context live at) xs l n = AllWellNumbered (names live) xs
+NumberedRight (R.Items context live before) xs l n = AllWellNumbered (names live) before → AllWellNumbered (names live) xs
+NumberedRight (R.Elements context live at before) xs l n = AllWellNumbered (names live) before → AllWellNumbered (names live) xs
+NumberedRight (R.Fields context live at before) xs l n = WellNumberedProperties (names live) before
     → WellNumberedProperties (names live) xs
-Right (R.Segments context live at before) xs l n = AllWellNumbered (names live) before → AllWellNumbered (names live) xs
-Right (R.Jump context live at) x l n = WellNumberedOptional (names live) x
-Right (R.BinaryOp context live at parent lhs) x l n = WellNumbered (names live) lhs → WellNumbered (names live) x
-Right (R.ExprStatement context live) f l n = Leaves live live f
-Right (R.Initializer context live at) x l n = WellNumbered (names live) x
-Right (R.Definition context live at constant exported) f l n = Leaves live f.1 f.0
-Right (R.Import context live at) f l n = Leaves live f.1 f.0
-Right (R.Export context live at) f l n = Leaves live f.1 f.0
-Right (R.Statement context live) f l n = Leaves live f.1 f.0
-Right (R.Statements closing context live before) fs l n = (ns : List Text) → WellNumberedStatements ns before
+NumberedRight (R.Segments context live at before) xs l n = AllWellNumbered (names live) before → AllWellNumbered (names live) xs
+NumberedRight (R.Jump context live at) x l n = WellNumberedOptional (names live) x
+NumberedRight (R.BinaryOp context live at parent lhs) x l n = WellNumbered (names live) lhs → WellNumbered (names live) x
+NumberedRight (R.ExprStatement context live) f l n = Leaves live live f
+NumberedRight (R.Initializer context live at) x l n = WellNumbered (names live) x
+NumberedRight (R.Definition context live at constant exported) f l n = Leaves live f.1 f.0
+NumberedRight (R.Import context live at) f l n = Leaves live f.1 f.0
+NumberedRight (R.Export context live at) f l n = Leaves live f.1 f.0
+NumberedRight (R.Statement context live) f l n = Leaves live f.1 f.0
+NumberedRight (R.Statements closing context live before) fs l n = (ns : List Text) → WellNumberedStatements ns before
     → names_after_all before ns ≡ names live
     → WellNumberedStatements ns fs.0 × (names_after_all fs.0 ns ≡ names fs.1)
-Right (R.Inside context live) fs l n = WellNumberedStatements (names live) fs
-Right (R.Block context live at) b l n = WellNumberedBlock (names live) b
-Right (R.BlockEnd at fs) b l n = (ns : List Text) → WellNumberedStatements ns fs → WellNumberedBlock ns b
-Right (R.Construct context live at kind) f l n = Leaves live live f
-Right (R.Braced context live at) b l n = WellNumberedBlock (names live) b
-Right (R.Guard context live) x l n = WellNumbered (names live) x
-Right (R.Iterated context live) x l n = WellNumbered (names live) x
-Right (R.Conditional context live at) f l n = Leaves live live f
-Right (R.Branch context live at) b l n = WellNumberedBlock (names live) b
-Right (R.Arms context live before) x l n = IsCollected (names live) before → IsCollected (names live) x
-Right (R.Arm context live before) a l n = AllWellNumbered (names live) a.0 × WellNumbered (names live) a.1
+NumberedRight (R.Inside context live) fs l n = WellNumberedStatements (names live) fs
+NumberedRight (R.Block context live at) b l n = WellNumberedBlock (names live) b
+NumberedRight (R.BlockEnd at fs) b l n = (ns : List Text) → WellNumberedStatements ns fs → WellNumberedBlock ns b
+NumberedRight (R.Construct context live at kind) f l n = Leaves live live f
+NumberedRight (R.Braced context live at) b l n = WellNumberedBlock (names live) b
+NumberedRight (R.Guard context live) x l n = WellNumbered (names live) x
+NumberedRight (R.Iterated context live) x l n = WellNumbered (names live) x
+NumberedRight (R.Conditional context live at) f l n = Leaves live live f
+NumberedRight (R.Branch context live at) b l n = WellNumberedBlock (names live) b
+NumberedRight (R.Arms context live before) x l n = IsCollected (names live) before → IsCollected (names live) x
+NumberedRight (R.Arm context live before) a l n = AllWellNumbered (names live) a.0 × WellNumbered (names live) a.1
     × WellNumbered (names live) a.2
-Right (R.DefaultArm context live default) x l n = WellNumbered (names live) x
-Right (R.Cases context live before) xs l n = AllWellNumbered (names live) before → AllWellNumbered (names live) xs
-Right (R.Case context live) x l n = WellNumbered (names live) x
-Right (R.CaseGuard context live) x l n = WellNumbered (names live) x
-Right (R.Action context live) x l n = WellNumbered (names live) x.0
-Right (R.FunctionStatement context live comments first at is_private) f l n = Leaves live f.1 f.0
-Right (R.Function context comments at is_private) x l n = WellNumberedFunction [] x.function.parameters x
-Right (R.Closure context live at by) x l n = WellNumbered (names live) x
-Right (R.ClosureBody context live) f l n = WellNumberedStatement (names live) f
-Right _ x l n = Unit {0}
+NumberedRight (R.DefaultArm context live default) x l n = WellNumbered (names live) x
+NumberedRight (R.Cases context live before) xs l n = AllWellNumbered (names live) before → AllWellNumbered (names live) xs
+NumberedRight (R.Case context live) x l n = WellNumbered (names live) x
+NumberedRight (R.CaseGuard context live) x l n = WellNumbered (names live) x
+NumberedRight (R.Action context live) x l n = WellNumbered (names live) x.0
+NumberedRight (R.FunctionStatement context live comments first at is_private) f l n = Leaves live f.1 f.0
+NumberedRight (R.Function context comments at is_private) x l n = WellNumberedFunction [] x.function.parameters x
+NumberedRight (R.Closure context live at by) x l n = WellNumbered (names live) x
+NumberedRight (R.ClosureBody context live) f l n = WellNumberedStatement (names live) f
+NumberedRight _ x l n = Unit {0}
 
 -- ---- the function of a closure
 

@@ -2,7 +2,7 @@
 use Rattle.std.specs.Prelude.{◌≡◌, ℕ, Bool, false, List, Option, Some, None}
 use Rattle.rhai_grammar.specs.Prelude.{Lexeme, Position, Refusal, Use, is_at_last}
 use Rattle.rhai_grammar.specs.Goals.{Val}
-use Rattle.rhai_grammar.specs.Productions.{Production, Seen}
+use Rattle.rhai_grammar.specs.Productions.{Production, SeenBy}
 use Rattle.rhai_grammar.specs.Productions as S
 
 -- This fault, if it is one, is none of the errors that stand at the last token seen.
@@ -16,7 +16,7 @@ Tidy (S.give x) = Unit {0}
 Tidy (S.never why) = Unit {0}
 Tidy (S.take w m k) = (l : Lexeme) (at : Position) → Tidy (k l at)
 Tidy (S.this k) = (l : Lexeme) (at : Position) → Tidy (k l at)
-Tidy (S.choose v k) = (y : Seen v) → Tidy (k y)
+Tidy (S.choose v k) = (y : SeenBy v) → Tidy (k y)
 Tidy (S.if_next t p q) = Tidy p × Tidy q
 Tidy (S.here k) = (at : Position) → Tidy (k at)
 Tidy (S.must b e p) = (is_at_last e.cause ≡ false) × Tidy p

@@ -10,7 +10,7 @@ use Rattle.rhai_grammar.specs.declared.role.Beginning.{Beginning}
 use Rattle.rhai_grammar.specs.declared.role.Beginning.TheVariants as begin
 use Rattle.rhai_grammar_reading.specs.Reading as R
 use Rattle.rhai_grammar.specs.Goals.{Goal, Val}
-use Rattle.rhai_grammar.specs.Productions.{Production, Seen}
+use Rattle.rhai_grammar.specs.Productions.{Production, SeenBy}
 use Rattle.rhai_grammar.specs.Productions as S
 use Rattle.rhai_grammar.specs.Rules.{production}
 use Rattle.rhai_grammar.specs.Rules as P
@@ -89,7 +89,7 @@ module _ (within names : Bool) (slots : List SlotValue) where
   Watches (S.take t m k) = (l : Lexeme) (at : Position) → Watches (k l at)
   Watches (S.this k) = (l : Lexeme) (at : Position) → Watches (k l at)
   Watches (S.if_next t p q) = Watches p × Watches q
-  Watches (S.choose v k) = (y : Seen v) → Watches (k y)
+  Watches (S.choose v k) = (y : SeenBy v) → Watches (k y)
   Watches (S.here k) = (at : Position) → Watches (k at)
   Watches (S.must b e p) = Watches p
   Watches (S.checked e p) = Watches p

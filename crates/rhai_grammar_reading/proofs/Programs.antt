@@ -12,14 +12,14 @@ use Rattle.rhai_grammar_reading.specs.Moves.{Moves, Outcome, Done, Refused, Unfi
 use Rattle.rhai_grammar_reading.specs.Histories as H
 use Rattle.rhai_grammar_reading.specs.Histories.{State, next_item, after_peek, after_take, after_brace, adding}
 use Rattle.rhai_grammar_reading.specs.Histories.{with_captured, calls}
-use Rattle.rhai_grammar_reading.proofs.Streams.{Kept, Run, ended, join, kept_by, look, take, turn}
+use Rattle.rhai_grammar_reading.proofs.Streams.{KeptRun, Run, ended, join, kept_by, look, take, turn}
 
 -- What is told of a run f from s, beside another one. Where that one ends, f ends with the same, at a related state. It
 -- does the same on every stream that begins with what it saw.
 pub data Told {T : Type 0} (R : State → T → Type 0) (E : Refusal → State → T → Type 0) {A : Type 0} (f : Run A)
     (s : State) : Outcome T A → Type 0 where
-  both_done : {x : A} {u : State} {t : T} → Kept f s u (λ w. Done x w) → R u t → Told R E f s (Done x t)
-  both_refused : {e : Refusal} {u : State} {t : T} → Kept f s u (λ w. Refused e w) → E e u t
+  both_done : {x : A} {u : State} {t : T} → KeptRun f s u (λ w. Done x w) → R u t → Told R E f s (Done x t)
+  both_refused : {e : Refusal} {u : State} {t : T} → KeptRun f s u (λ w. Refused e w) → E e u t
       → Told R E f s (Refused e t)
   no_end : Told R E f s Unfinished
 
@@ -50,7 +50,7 @@ pub record Alike {T : Type 0} (n : Moves T) (R : (brace : Bool) → State → T 
 
 module _ {T : Type 0} {R : State → T → Type 0} {E : Refusal → State → T → Type 0} where
   -- steps and what comes after them, a call and what comes after it, a call that is recast, and one of two
-  goes_on : {A : Type 0} {f g : Run A} {s u : State} {o : Outcome T A} → Kept f s u g → Told R E g u o → Told R E f s o
+  goes_on : {A : Type 0} {f g : Run A} {s u : State} {o : Outcome T A} → KeptRun f s u g → Told R E g u o → Told R E f s o
   goes_on a (both_done b r) = both_done (join a b) r
   goes_on a (both_refused b r) = both_refused (join a b) r
   goes_on a no_end = no_end

@@ -36,7 +36,7 @@ Agree r s = (r.point.library ≡ s.point.library) × (r.point.captured ≡ s.poi
 
 -- From s a run came to t, and does there what make does. It took some tokens, and does the same, after the same
 -- functions, on every stream that begins with what it saw. Where a token was peeked before, such a stream has that one.
-pub record Kept {A : Type 0} (run : Run A) (s t : State) (make : Run A) : Type 0 where
+pub record KeptRun {A : Type 0} (run : Run A) (s t : State) (make : Run A) : Type 0 where
   pub took : List Taken
   pub gives : Gives took s.point.tokens
   pub left : t.point.tokens ≡ leads took s.point.tokens
@@ -49,7 +49,7 @@ pub record Kept {A : Type 0} (run : Run A) (s t : State) (make : Run A) : Type 0
 -- ---- one run after another
 
 -- a stream that begins with what both saw begins so for each
-parts : {A : Type 0} {f g make : Run A} {s u t : State} (a : Kept f s u g) (b : Kept g u t make) (r : Tokens)
+parts : {A : Type 0} {f g make : Run A} {s u t : State} (a : KeptRun f s u g) (b : KeptRun g u t make) (r : Tokens)
     → BeginsWith (a.took ++ b.took) (cursor t) r
     → BeginsWith a.took (cursor u) r × BeginsWith b.took (cursor t) (leads a.took r)
 parts {t = t} a b r begins =
@@ -59,7 +59,7 @@ parts {t = t} a b r begins =
     ) in
     ((first_part a.took b.took r begins.0, λ p. b.front p (leads a.took r) rest), rest)
 
-pub join : {A : Type 0} {f g make : Run A} {s u t : State} → Kept f s u g → Kept g u t make → Kept f s t make
+pub join : {A : Type 0} {f g make : Run A} {s u t : State} → KeptRun f s u g → KeptRun g u t make → KeptRun f s t make
 join {make = make} {s} {u} {t} a b = record {
   took = a.took ++ b.took;
   gives = both a.took b.took s.point.tokens a.gives (subst (Gives b.took) a.left b.gives);
@@ -77,8 +77,8 @@ join {make = make} {s} {u} {t} a b = record {
 }
 
 -- what is made of an outcome, whatever it is
-pub kept_by : {A B : Type 0} (h : Outcome A → Outcome B) {f make : Run A} {s t : State} → Kept f s t make
-    → Kept (λ w. h (f w)) s t (λ w. h (make w))
+pub kept_by : {A B : Type 0} (h : Outcome A → Outcome B) {f make : Run A} {s t : State} → KeptRun f s t make
+    → KeptRun (λ w. h (f w)) s t (λ w. h (make w))
 kept_by h a = record {
   took = a.took;
   gives = a.gives;
@@ -103,7 +103,7 @@ still : {A : Type 0} (f g : Run A) (s : State) (library : Library) (captured : L
     → (s.peeked ≡ true → peeked ≡ true)
     → ((w : Tokens) (taken : List Taken) → (peeked ≡ true → ask s.mode w ≡ next_item s)
     → f (placed s w taken) ≡ g (placed (stood s library captured peeked) w taken))
-    → Kept f s (stood s library captured peeked) g
+    → KeptRun f s (stood s library captured peeked) g
 still f g s library captured peeked stays as_ = record {
   took = [];
   gives = tt;
@@ -114,23 +114,23 @@ still f g s library captured peeked stays as_ = record {
   again = λ r mode is agree begins. ap f (same r s mode is agree) ∙ as_ r.point.tokens r.point.taken begins.1;
 }
 
-pub ended : {A : Type 0} (make : Run A) (s : State) → Kept make s s make
+pub ended : {A : Type 0} (make : Run A) (s : State) → KeptRun make s s make
 ended make s =
     still make make s s.point.library s.point.captured s.peeked (λ p. p) (λ w taken begins. refl)
 
 pub look : {A : Type 0} (f : Item → Run A) (s : State)
-    → Kept (λ w. f (next_item w) (after_peek w)) s (after_peek s) (f (next_item s))
+    → KeptRun (λ w. f (next_item w) (after_peek w)) s (after_peek s) (f (next_item s))
 look f s = still _ (f (next_item s)) s s.point.library s.point.captured true (λ p. refl)
     (λ w taken begins. ap (λ i. f i (placed (after_peek s) w taken)) (begins refl))
 
 -- where others have ended, and others were captured
 pub turn : {A : Type 0} (f : Library → List Use → Run A) (l : Library → Library) (us : List Use → List Use) (s : State)
-    → Kept (λ w. f w.point.library w.point.captured (stood w (l w.point.library) (us w.point.captured) w.peeked)) s
+    → KeptRun (λ w. f w.point.library w.point.captured (stood w (l w.point.library) (us w.point.captured) w.peeked)) s
     (stood s (l s.point.library) (us s.point.captured) s.peeked) (f s.point.library s.point.captured)
 turn f l us s =
     still _ _ s (l s.point.library) (us s.point.captured) s.peeked (λ p. p) (λ w taken begins. refl)
 
-pub take : {A : Type 0} (mode : Mode) (f : Run A) (s : State) → Kept (λ w. f (taking_to mode w)) s (taking_to mode s) f
+pub take : {A : Type 0} (mode : Mode) (f : Run A) (s : State) → KeptRun (λ w. f (taking_to mode w)) s (taking_to mode s) f
 take mode f s = record {
   took = record { mode = s.mode; item = next_item s } ∷ [];
   gives = (refl, tt);

@@ -16,7 +16,9 @@ ghost use Rattle.rhai_parser_shared.specs.PlainPrimaries.{is_plain};
 ghost use Rattle.rhai_trees.specs.Chains.{chain_view};
 ghost use Rattle.rhai_parser_expressions.specs.Readers.{Lends, Reads, ReadsEnds};
 
-use crate::expr::asks::{as_variable, end_operand, end_plain, ends_here, sign_operand};
+use crate::expr::asks::{
+    end_operand, end_plain, next_ends_operand, sign_operand, variable_of_chain,
+};
 use crate::expr::paths::{NamedOperand, named_operand};
 use crate::primary::asks::take_value;
 use crate::reader::Reader;
@@ -70,7 +72,7 @@ impl<R: LentReaders> Reader<'_, R> {
             shared.new }
     {
         let alloc = self.engine.alloc();
-        let (name, pos) = match as_variable(alloc, operand) {
+        let (name, pos) = match variable_of_chain(alloc, operand) {
             Ok(variable) => variable,
             Err(other) => {
                 peek(shared.input)?;
@@ -294,7 +296,7 @@ impl<R: LentReaders> Reader<'_, R> {
         requires lent { Lends R.lent self.now operand frame.now settings shared.old }
         ensures { ReadsEnds self.now frame.now settings primary shared.old result shared.new }
     {
-        if !ends_here(shared)? {
+        if !next_ends_operand(shared)? {
             return match self.parse_all_ends(shared, frame, settings, primary) {
                 Ok(operand) => Ok(operand),
                 Err(error) => Err(error),

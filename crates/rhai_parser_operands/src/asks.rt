@@ -5,7 +5,7 @@ ghost use Rattle.rhai_lower.specs.View.{property_views, written};
 ghost use Rattle.rhai_base.specs.Frames.{FrameValue};
 ghost use Rattle.rhai_grammar_reading.specs.Reading.{NextKey};
 ghost use Rattle.rhai_parser_shared.specs.Frames.{context_of};
-ghost use Rattle.rhai_parser_shared.specs.Readers.{GoesOn, Reads};
+ghost use Rattle.rhai_parser_shared.specs.Readers.{GoesOn, ReadsGoal};
 ghost use Rattle.rhai_parser_shared.specs.Heights.{Steady};
 
 use crate::keys;
@@ -27,7 +27,7 @@ pub(crate) fn next_key(
 ) -> ParseResult<Option<Ident>>
     ensures goes_on { GoesOn shared.old shared.new }
     ensures steady { Steady shared.old shared.new }
-    ensures reads { (frame : FrameValue) → Reads (NextKey (context_of engine.now frame settings)
+    ensures reads { (frame : FrameValue) → ReadsGoal (NextKey (context_of engine.now frame settings)
         (property_views properties.now)) (option_map written) shared.old result shared.new }
 {
     let alloc = engine.alloc();

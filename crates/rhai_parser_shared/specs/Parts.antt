@@ -12,7 +12,7 @@ use Rattle.rhai_base.specs.Frames.{FrameValue}
 use Rattle.rhai_base.specs.declared.settings.ParseSettings.{ParseSettings}
 use Rattle.rhai_parser_shared.specs.Engines.{EngineValue}
 use Rattle.rhai_parser_shared.specs.Heights.{Stays}
-use Rattle.rhai_parser_shared.specs.Readers.{GoesOn, Reads, state_of}
+use Rattle.rhai_parser_shared.specs.Readers.{GoesOn, ReadsGoal, state_of}
 use Rattle.rhai_parser_shared.specs.declared.shared.Shared.{Shared}
 
 -- The next token can be taken: it is not the end, and there was memory for it.
@@ -53,5 +53,5 @@ pub record ReadsSuch (engine : EngineValue) (frame : FrameValue) (settings : Par
     (new : Shared) : Type 0 where
   pub goes_on : GoesOn old new
   pub stays : Stays engine frame settings height old new
-  pub reads : Reads (goal engine frame settings) view old result new
+  pub reads : ReadsGoal (goal engine frame settings) view old result new
   pub such : IfOk result holds

@@ -288,12 +288,12 @@ pub record GoesOn (old new : Shared) : Type 0 where
   pub grows : Grows (state_of old).library (state_of new).library
 
 -- What a reader returned, seen by view, is what the goal gives, and so is what it left; unless memory ran out.
-abbrev pub Reads : {X : Type 0} (g : Goal) → (X → Val g) → Shared → Result X ParseError → Shared → Type 0
-Reads g view old result new = Gives view (result_of g (state_of old)) result (state_of new)
+abbrev pub ReadsGoal : {X : Type 0} (g : Goal) → (X → Val g) → Shared → Result X ParseError → Shared → Type 0
+ReadsGoal g view old result new = Gives view (result_of g (state_of old)) result (state_of new)
 
 -- The same of a reader that counts: it is entered and left.
-abbrev pub Nests : {X : Type 0} (g : Goal) → (X → Val g) → Shared → Result X ParseError → Shared → Type 0
-Nests g view old result new = Gives view (nested (result_of g) (state_of old)) result (state_of new)
+abbrev pub NestsGoal : {X : Type 0} (g : Goal) → (X → Val g) → Shared → Result X ParseError → Shared → Type 0
+NestsGoal g view old result new = Gives view (nested (result_of g) (state_of old)) result (state_of new)
 
 -- a goal, by the engine, the frame and the settings that it is read under
 abbrev pub Reading : Type 0
@@ -307,7 +307,7 @@ pub record ReadsAs (engine : EngineValue) (frame : FrameValue) (settings : Parse
     (result : Result X ParseError) (new : Shared) : Type 0 where
   pub goes_on : GoesOn old new
   pub stays : Stays engine frame settings height old new
-  pub reads : Reads (goal engine frame settings) view old result new
+  pub reads : ReadsGoal (goal engine frame settings) view old result new
 
 -- The same of a reader that counts.
 pub record NestsAs (engine : EngineValue) (frame : FrameValue) (settings : ParseSettings) (height : ℕ)
@@ -315,7 +315,7 @@ pub record NestsAs (engine : EngineValue) (frame : FrameValue) (settings : Parse
     (result : Result X ParseError) (new : Shared) : Type 0 where
   pub goes_on : GoesOn old new
   pub stays : Stays engine frame settings height old new
-  pub reads : Nests (goal engine frame settings) view old result new
+  pub reads : NestsGoal (goal engine frame settings) view old result new
 
 -- Calls of each need below that of this goal may be made.
 abbrev pub Covers : (ℕ → Type 0) → Goal → Shared → Type 0

@@ -9,7 +9,7 @@ use Rattle.rhai_base.specs.Frames.{FrameValue, SameSurroundings}
 use Rattle.rhai_base.specs.declared.settings.ParseSettings.{ParseSettings}
 use Rattle.rhai_parser_shared.specs.Engines.{EngineValue}
 use Rattle.rhai_parser_shared.specs.Heights.{Stays, function_height}
-use Rattle.rhai_parser_shared.specs.Readers.{GoesOn, NestsAs, Reads, state_of, statement, with_live}
+use Rattle.rhai_parser_shared.specs.Readers.{GoesOn, NestsAs, ReadsGoal, state_of, statement, with_live}
 use Rattle.rhai_parser_shared.specs.declared.shared.Shared.{Shared}
 
 -- What a reader of a statement promises that begins in one frame and ends in another: what is around the frame stays,
@@ -18,7 +18,7 @@ pub record ReadsStatement (engine : EngineValue) (before after : FrameValue) (se
     (result : Result Stmt ParseError) (new : Shared) : Type 0 where
   pub goes_on : GoesOn old new
   pub stays : Stays engine before settings (1 + function_height engine settings) old new
-  pub reads : Reads (statement engine before settings) (with_live statement_view after) old result new
+  pub reads : ReadsGoal (statement engine before settings) (with_live statement_view after) old result new
   pub place : SameSurroundings before after
   pub takes : IfOk result (λ s. ends_itself (statement_view s) ≡ true
       → left (state_of new).cursor.tokens + 1 ≤ left (state_of old).cursor.tokens)

@@ -8,7 +8,7 @@ ghost use Rattle.rhai_grammar.specs.Functions.{parameters_live};
 ghost use Rattle.rhai_grammar.specs.Imports.{is_among};
 ghost use Rattle.rhai_base.specs.Frames.{SameSurroundings};
 ghost use Rattle.rhai_grammar_reading.specs.Reading.{Parameters};
-ghost use Rattle.rhai_parser_shared.specs.Readers.{GoesOn, Reads, names_of};
+ghost use Rattle.rhai_parser_shared.specs.Readers.{GoesOn, ReadsGoal, names_of};
 ghost use Rattle.rhai_parser_shared.specs.Heights.{Steady};
 
 use crate::shared::Shared;
@@ -31,7 +31,7 @@ pub fn next_parameters(
 ) -> ParseResult<Vec<RcStr>>
     ensures goes_on { GoesOn shared.old shared.new }
     ensures steady { Steady shared.old shared.new }
-    ensures reads { Reads (Parameters list (rc_str_bytes function.now) []) names_of shared.old result shared.new }
+    ensures reads { ReadsGoal (Parameters list (rc_str_bytes function.now) []) names_of shared.old result shared.new }
 {
     let mut names = NamedList::new(alloc);
     loop {

@@ -17,14 +17,14 @@ use Rattle.rhai_report.specs.declared.snippet.Snippet.{Snippet}
 use Rattle.rhai_report.proofs.LineBounds.{line_begins, line_ends, shown_ends}
 use Rattle.rhai_report.proofs.TextLemmas.{got}
 
--- a part that runs backwards is empty
+-- a range_part that runs backwards is empty
 none_between : (s : Text) (i j : ℕ) → j < i → slice_range s i j ≡ []
 none_between s i j l = let e : j - i ≡ 0 = omega arith in ap (λ n. take n (drop i s)) e
 
--- A part is what is asked for, where characters begin at both ends, and nothing stands for one that is not there.
-pub part : (s : Text) (i j : ℕ) (r : Option (Bor Text)) (d : Bor Text) → GetsRange s i j r → IsCharBoundary s i
+-- A range_part is what is asked for, where characters begin at both ends, and nothing stands for one that is not there.
+pub range_part : (s : Text) (i j : ℕ) (r : Option (Bor Text)) (d : Bor Text) → GetsRange s i j r → IsCharBoundary s i
     → IsCharBoundary s j → d.now ≡ [] → (unwrap_or r d).now ≡ slice_range s i j
-part s i j r d g a b e = by (cases_lt j i)
+range_part s i j r d g a b e = by (cases_lt j i)
   where
     none : (o : Option (Bor Text)) → GetsRange s i j o → j < i → (unwrap_or o d).now ≡ slice_range s i j
     none None h l = e ∙ sym (none_between s i j l)
@@ -80,11 +80,11 @@ whole_parts text m line end stop r o k d e f s u l n h gr go gk nd ne nf before_
     (subst (λ n. GetsRange text stop n k) ended gk) in
     record {
       before = ap (λ (x : Bor Text). x.now) before_is
-          ∙ part text (line_of_mark text m).start m.start r d first (begins text m u a) a nd;
+          ∙ range_part text (line_of_mark text m).start m.start r d first (begins text m u a) a nd;
       mark = ap (λ (x : Bor Text). x.now) mark_is
-          ∙ part text m.start (end_of_mark text m) o e middle a (mark_ends text m u a b) ne;
+          ∙ range_part text m.start (end_of_mark text m) o e middle a (mark_ends text m u a b) ne;
       after = ap (λ (x : Bor Text). x.now) after_is
-          ∙ part text (end_of_mark text m) (end_of_line text m) k f last (mark_ends text m u a b) (ends text m u a) nf;
+          ∙ range_part text (end_of_mark text m) (end_of_line text m) k f last (mark_ends text m u a b) (ends text m u a) nf;
       cut_front = cf;
       cut_end = ce;
     }

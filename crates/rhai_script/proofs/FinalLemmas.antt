@@ -13,34 +13,34 @@ use Rattle.rhai_grammar.specs.Promises.{written}
 use Rattle.rhai_tokenizer.specs.Meanings.{at_start}
 use Rattle.rhai_tokenizer.specs.Pieces.{Piece, spelled}
 use Rattle.rhai_tokenizer.specs.Places.{at_place, past, start}
-use Rattle.rhai_tokenizer.specs.Readings.{Item, items}
+use Rattle.rhai_tokenizer.specs.Readings.{ReadEntry, items}
 use Rattle.rhai_tokenizer.specs.declared.limits.Limits.{Limits}
 use Rattle.rhai_script.specs.Deliveries.{cursor_in, delivers, tokens_in}
 use Rattle.rhai_script.specs.GlobalLevels.{IsFinal}
 
 -- ---- lists
 
-abbrev rest : List Item → List Item
+abbrev rest : List ReadEntry → List ReadEntry
 rest [] = []
 rest (i ∷ is) = is
 
-abbrev first_or : Item → List Item → Item
+abbrev first_or : ReadEntry → List ReadEntry → ReadEntry
 first_or d [] = d
 first_or d (i ∷ is) = i
 
-first_same : (i j : Item) (n : ℕ) (is js : List Item) → take (suc n) (j ∷ js) ≡ take (suc n) (i ∷ is) → j ≡ i
+first_same : (i j : ReadEntry) (n : ℕ) (is js : List ReadEntry) → take (suc n) (j ∷ js) ≡ take (suc n) (i ∷ is) → j ≡ i
 first_same i j n is js same = ap (first_or i) same
 
-others_same : (i j : Item) (n : ℕ) (is js : List Item) → take (suc n) (j ∷ js) ≡ take (suc n) (i ∷ is)
+others_same : (i j : ReadEntry) (n : ℕ) (is js : List ReadEntry) → take (suc n) (j ∷ js) ≡ take (suc n) (i ∷ is)
     → take n js ≡ take n is
 others_same i j n is js same = ap rest same
 
 -- a list that is not empty begins with no other's empty beginning
-abbrev is_empty : List Item → Bool
+abbrev is_empty : List ReadEntry → Bool
 is_empty [] = true
 is_empty (i ∷ is) = false
 
-none_same : (i : Item) (n : ℕ) (is : List Item) → take (suc n) [] ≡ take (suc n) (i ∷ is) → ⊥
+none_same : (i : ReadEntry) (n : ℕ) (is : List ReadEntry) → take (suc n) [] ≡ take (suc n) (i ∷ is) → ⊥
 none_same i n is same = true≢false (ap is_empty same)
 
 less : {a b : ℕ} → suc a ≤ suc b → a ≤ b
@@ -55,12 +55,12 @@ none_less h = absurd (omega (arith, h))
 -- ---- streams
 
 -- the next token of a stream is that of its first item
-asks_first : (i : Item) (is js : List Item) (end other : Position) (m : Mode)
+asks_first : (i : ReadEntry) (is js : List ReadEntry) (end other : Position) (m : Mode)
     → ask m (delivers (i ∷ js) other) ≡ ask m (delivers (i ∷ is) end)
 asks_first i is js end other code = refl
 asks_first i is js end other text = refl
 
-later_is : (i : Item) (is : List Item) (end : Position) (m : Mode) → later m (delivers (i ∷ is) end) ≡ delivers is end
+later_is : (i : ReadEntry) (is : List ReadEntry) (end : Position) (m : Mode) → later m (delivers (i ∷ is) end) ≡ delivers is end
 later_is i is end code = refl
 later_is i is end text = refl
 
@@ -71,7 +71,7 @@ end_stays : (end : Position) (m : Mode) → later m (delivers [] end) ≡ delive
 end_stays end m = refl
 
 -- Where the next token after those taken is not the end mark, there are more tokens than those.
-pub within : (taken : List Taken) (is : List Item) (end : Position) (m : Mode)
+pub within : (taken : List Taken) (is : List ReadEntry) (end : Position) (m : Mode)
     → is_end (ask m (leads taken (delivers is end))).lexeme ≡ false → suc (length taken) ≤ length is
 within [] [] end m no_end = absurd (true≢false no_end)
 within [] (i ∷ is) end m no_end = more (omega arith)
@@ -83,7 +83,7 @@ within (k ∷ taken) (i ∷ is) end m no_end =
     (later_is i is end k.mode) no_end))
 
 -- A stream with the same first tokens gives the same ones.
-pub gives_same : (taken : List Taken) (is js : List Item) (end other : Position) → length taken ≤ length is
+pub gives_same : (taken : List Taken) (is js : List ReadEntry) (end other : Position) → length taken ≤ length is
     → take (length taken) js ≡ take (length taken) is → Gives taken (delivers is end) → Gives taken (delivers js other)
 gives_same [] is js end other few same gives = tt
 gives_same (k ∷ taken) [] js end other few same gives = absurd (none_less few)
@@ -98,7 +98,7 @@ gives_same (k ∷ taken) (i ∷ is) (j ∷ js) end other few same gives =
     )
 
 -- And the token after those is the same.
-pub asks_same : (taken : List Taken) (is js : List Item) (end other : Position) (m : Mode) → suc
+pub asks_same : (taken : List Taken) (is js : List ReadEntry) (end other : Position) (m : Mode) → suc
     (length taken) ≤ length is
     → take (suc (length taken)) js ≡ take (suc (length taken)) is
     → ask m (leads taken (delivers js other)) ≡ ask m (leads taken (delivers is end))
@@ -115,7 +115,7 @@ asks_same (k ∷ taken) (i ∷ is) (j ∷ js) end other m few same =
     (later_is i is end k.mode)) left
 
 -- a list that begins with more of another begins with fewer of it
-fewer_same : (n : ℕ) (is js : List Item) → take (suc n) js ≡ take (suc n) is → take n js ≡ take n is
+fewer_same : (n : ℕ) (is js : List ReadEntry) → take (suc n) js ≡ take (suc n) is → take n js ≡ take n is
 fewer_same zero is js same = refl
 fewer_same (suc n) [] [] same = refl
 fewer_same (suc n) [] (j ∷ js) same = absurd (true≢false (sym (ap is_empty same)))
@@ -129,7 +129,7 @@ fewer_same (suc n) (i ∷ is) (j ∷ js) same =
 module _ (g : Goal) (before : Library) (limits : Limits) (ps : List Piece) (taken : List Taken)
     (left : Cursor) (saw : Saw taken (cursor_in limits ps) left) (early : NoneBegins (written g) before taken left)
     (no_end : is_end (next_item left).lexeme ≡ false) where
-  abbrev all : List Item
+  abbrev all : List ReadEntry
   all = items limits at_start ps
 
   abbrev end_of : List Piece → Position

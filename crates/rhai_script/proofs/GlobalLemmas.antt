@@ -24,7 +24,7 @@ use Rattle.rhai_grammar_laws.proofs.Positions.{refusals_stand_at_tokens}
 use Rattle.rhai_parser_shared.specs.Engines.{EngineValue}
 use Rattle.rhai_parser.specs.Nesting.{NestsAsWritten}
 use Rattle.rhai_parser.specs.Scripts.{Constants, IsScript, ReadsScript}
-use Rattle.rhai_tokenizer.specs.Readings.{Reads}
+use Rattle.rhai_tokenizer.specs.Readings.{IsCutInto}
 use Rattle.rhai_tokenizer.specs.declared.limits.Limits.{Limits}
 use Rattle.rhai_tokenizer.specs.declared.tokens.Span.{Span}
 use Rattle.rhai_tokenizer.specs.declared.tokens.Tokens as T
@@ -76,7 +76,7 @@ abbrev Read : Type 0
 Read = Result (Vec Stmt Global × Vec (Rc ScriptFuncDef Global) Global) ParseError
 
 module _ (engine : EngineValue) (constants : Constants) (limits : Limits) (text : Text) (before after : Library)
-    (tokens : T.Tokens) (left : Cursor) (read : Reads text limits tokens) where
+    (tokens : T.Tokens) (left : Cursor) (read : IsCutInto text limits tokens) where
   abbrev start : Cursor
   start = cursor_of (stream_of (map ask_of tokens.entries.items) tokens.end)
 

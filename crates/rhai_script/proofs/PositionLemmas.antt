@@ -9,7 +9,7 @@ use Rattle.rhai_grammar.specs.Delivered.{Mode, Taken, ask, code, later, text}
 use Rattle.rhai_grammar_laws.specs.PositionLaws.{StandsAmong}
 use Rattle.rhai_grammar.specs.Promises.{Saw}
 use Rattle.rhai_grammar.specs.Seen.{Gives, leads}
-use Rattle.rhai_tokenizer.specs.Readings.{Item}
+use Rattle.rhai_tokenizer.specs.Readings.{ReadEntry}
 use Rattle.rhai_script.specs.Deliveries.{IsPlaceOf, delivers}
 
 -- ---- lists
@@ -28,33 +28,33 @@ split : (x : Position) (xs : List Position) (y : Position) → Contains (x ∷ x
 split x xs y (zero, less, is) = inl (sym is)
 split x xs y (suc k, less, is) = inr (k, omega (arith, less), is)
 
-more : (i : Item) (is : List Item) (end at : Position) → IsPlaceOf is end at → IsPlaceOf (i ∷ is) end at
+more : (i : ReadEntry) (is : List ReadEntry) (end at : Position) → IsPlaceOf is end at → IsPlaceOf (i ∷ is) end at
 more i is end at (inl h) = inl (later_one i.at (map (λ j. j.at) is) at h)
 more i is end at (inr e) = inr e
 
 -- ---- the stream
 
 -- a token that is requested
-asked_place : (is : List Item) (end : Position) (m : Mode) → IsPlaceOf is end (ask m (delivers is end)).at
+asked_place : (is : List ReadEntry) (end : Position) (m : Mode) → IsPlaceOf is end (ask m (delivers is end)).at
 asked_place [] end m = inr refl
 asked_place (i ∷ is) end code = inl (first i.at (map (λ j. j.at) is))
 asked_place (i ∷ is) end text = inl (first i.at (map (λ j. j.at) is))
 
-abbrev rest : List Item → List Item
+abbrev rest : List ReadEntry → List ReadEntry
 rest [] = []
 rest (i ∷ is) = is
 
-later_is : (is : List Item) (end : Position) (m : Mode) → later m (delivers is end) ≡ delivers (rest is) end
+later_is : (is : List ReadEntry) (end : Position) (m : Mode) → later m (delivers is end) ≡ delivers (rest is) end
 later_is [] end m = refl
 later_is (i ∷ is) end code = refl
 later_is (i ∷ is) end text = refl
 
-back : (is : List Item) (end at : Position) → IsPlaceOf (rest is) end at → IsPlaceOf is end at
+back : (is : List ReadEntry) (end at : Position) → IsPlaceOf (rest is) end at → IsPlaceOf is end at
 back [] end at h = h
 back (i ∷ is) end at h = more i is end at h
 
 -- the tokens that were taken
-taken_place : (taken : List Taken) (is : List Item) (end at : Position) → Gives taken (delivers is end)
+taken_place : (taken : List Taken) (is : List ReadEntry) (end at : Position) → Gives taken (delivers is end)
     → Contains (map (λ k. k.item.at) taken) at → IsPlaceOf is end at
 taken_place [] is end at gives h = absurd (none at h)
 taken_place (k ∷ taken) is end at gives h =
@@ -65,7 +65,7 @@ taken_place (k ∷ taken) is end at gives h =
     ]
 
 -- the next one after these
-next_place : (taken : List Taken) (is : List Item) (end : Position) (m : Mode)
+next_place : (taken : List Taken) (is : List ReadEntry) (end : Position) (m : Mode)
     → IsPlaceOf is end (ask m (leads taken (delivers is end))).at
 next_place [] is end m = asked_place is end m
 next_place (k ∷ taken) is end m =
@@ -73,7 +73,7 @@ next_place (k ∷ taken) is end m =
     (back is end _ (next_place taken (rest is) end m))
 
 -- what stands at a token that was seen
-pub seen_place : (taken : List Taken) (is : List Item) (end : Position) (start left : Cursor) (at : Position)
+pub seen_place : (taken : List Taken) (is : List ReadEntry) (end : Position) (start left : Cursor) (at : Position)
     → start.tokens ≡ delivers is end → Saw taken start left → StandsAmong taken (next_item left) at → IsPlaceOf is end at
 seen_place taken is end start left at same saw (inl h) = taken_place taken is end at (subst
     (Gives taken) same saw.gives) h

@@ -38,7 +38,7 @@ use Rattle.rhai_parser.specs.Scripts.{Constants, IsMadeOf, IsScriptOf, Makes, Re
 use Rattle.rhai_grammar.specs.Settings.{one_more}
 use Rattle.rhai_parser.specs.Nesting.{KeepsCounts, NestsAsWritten}
 use Rattle.rhai_parser.specs.Starts.{KeepsOrder, StateValue, live_in, starts_in}
-use Rattle.rhai_tokenizer.specs.Readings.{Reads}
+use Rattle.rhai_tokenizer.specs.Readings.{IsCutInto}
 use Rattle.rhai_tokenizer.specs.declared.limits.Limits.{Limits}
 use Rattle.rhai_tokenizer.specs.declared.tokens.Tokens as T
 use Rattle.rhai_script.specs.Scripts.{ReadsTextAsAst, ReadsTextAsExpression, text_context}
@@ -129,7 +129,7 @@ module _ {X : Type 0} (goal : Context → Live → Goal)
       (constants : Constants)
       (limits : Limits) (text : Text) (result : Result X ParseError) (tokens : T.Tokens) (after : Library)
       (left : Cursor)
-      → Reads text limits tokens → chosen ≡ settings
+      → IsCutInto text limits tokens → chosen ≡ settings
       → IsNew state (stream_of (map ask_of tokens.entries.items) tokens.end) [] constants
       → ReadsWhole (goal (starts_in engine state chosen) (live_in state)) (Is after state.external_constants
       (starts_in engine state chosen) (live_in state))

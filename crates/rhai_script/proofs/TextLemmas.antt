@@ -15,7 +15,7 @@ use Rattle.rhai_grammar_reading.specs.Reading.{Goal}
 use Rattle.rhai_grammar.specs.Promises.{ReadsWhole, Written, unwritten}
 use Rattle.rhai_tokenizer.specs.Pieces.{Piece, spelled}
 use Rattle.rhai_tokenizer.specs.Places.{at_place, past, start}
-use Rattle.rhai_tokenizer.specs.Readings.{Reads, items}
+use Rattle.rhai_tokenizer.specs.Readings.{IsCutInto, items}
 use Rattle.rhai_tokenizer.specs.declared.limits.Limits.{Limits}
 use Rattle.rhai_tokenizer.specs.declared.tokens.Tokens as T
 use Rattle.rhai_tokenizer.specs.Cutting.{pieces_from}
@@ -73,7 +73,7 @@ refusal_placed g Is before after limits ps (Err e) left stand reads = λ told.
 abbrev pub text_read : {X : Type 0} (g : Goal) (Is : Written g → X → Type 0) (before after : Library)
     (limits : Limits) (text : Text)
     (result : Result X ParseError) (tokens : T.Tokens) (left : Cursor) → StandWhereNamed g
-    → Reads text limits tokens
+    → IsCutInto text limits tokens
     → ReadsWhole g Is before after (cursor_of (stream_of (map ask_of tokens.entries.items) tokens.end)) left result
     → UnlessMemory (HasRead (cursor_of (stream_of (map ask_of tokens.entries.items) tokens.end)) left) result
     → ReadsText g Is before after limits text result

@@ -13,7 +13,7 @@ use Rattle.rhai_tokenizer.specs.declared.limits.Limits.{Limits}
 use Rattle.rhai_tokenizer.specs.Meanings.{at_start}
 use Rattle.rhai_tokenizer.specs.Pieces.{Piece, Word, spelled}
 use Rattle.rhai_tokenizer.specs.Places.{at_place, past, start}
-use Rattle.rhai_tokenizer.specs.Readings.{Item, Reads, items}
+use Rattle.rhai_tokenizer.specs.Readings.{ReadEntry, IsCutInto, items}
 use Rattle.rhai_tokenizer.specs.declared.tokens.Tokens as T
 use Rattle.rhai_tokenizer.specs.Symbols.{keywords, reserved_words}
 
@@ -24,7 +24,7 @@ as_code (Interpolated t) = Faulty (UnexpectedInput t)
 as_code l = l
 
 -- what these tokens deliver, up to the end mark at this position
-abbrev pub delivers : List Item → Position → Tokens
+abbrev pub delivers : List ReadEntry → Position → Tokens
 delivers [] end = Ends end
 delivers (i ∷ more) end =
     let rest = delivers more end in
@@ -41,11 +41,11 @@ cursor_in limits ps = record { tokens = tokens_in limits ps; mode = code; peeked
 -- a stream of the tokens of a text
 pub record IsStreamOf (limits : Limits) (text : Text) (stream : Stream) : Type 0 where
   pub tokens : T.Tokens
-  pub reads : Reads text limits tokens
+  pub reads : IsCutInto text limits tokens
   pub is : stream ≡ stream_of (map ask_of tokens.entries.items) tokens.end
 
 -- This is the position of one of these tokens, or of the end mark, which is at `end`.
-abbrev pub IsPlaceOf : List Item → (end at : Position) → Type 0
+abbrev pub IsPlaceOf : List ReadEntry → (end at : Position) → Type 0
 IsPlaceOf is end at = Contains (map (λ i. i.at) is) at ⊎ (at ≡ end)
 
 -- the same of the tokens of the pieces of a whole text

@@ -88,17 +88,17 @@ entry_segment xs starts size b t s =
     ∙ (sym (entry_skip b t (take i xs) (take (j - i) (drop i xs) ++ drop j xs) s.before)
     ∙ ap (λ y. entry_of y (b ∷ t)) (split xs i j s.order))
 
--- the part of the code's table
-pub part : {B : Type 0} (f : B → Text × Meaning) (xs : List B) (n i : ℕ) → map f (take n (drop i xs))
+-- the segment_part of the code's table
+pub segment_part : {B : Type 0} (f : B → Text × Meaning) (xs : List B) (n i : ℕ) → map f (take n (drop i xs))
     ≡ take n (drop i (map f xs))
-part f xs n i = sym (take-map f n (drop i xs)) ∙ ap (take n) (sym (drop-map f i xs))
+segment_part f xs n i = sym (take-map f n (drop i xs)) ∙ ap (take n) (sym (drop-map f i xs))
 
 pub entry_part : {B : Type 0} (f : B → Text × Meaning) (xs : List B) (table : Table) (given starts : List ℕ)
     (size b : ℕ) (t : Text) → map f xs ≡ table → given ≡ starts → Segment table starts size b
     → entry_of (map f (take (get_or given (b + 1) 0 - get_or given b 0) (drop (get_or given b 0) xs))) (b ∷ t)
     ≡ entry_of table (b ∷ t)
 entry_part f xs table given starts size b t is e s =
-    ap (λ x. entry_of x (b ∷ t)) (part f xs (get_or given (b + 1) 0 - get_or given b 0) (get_or given b 0)
+    ap (λ x. entry_of x (b ∷ t)) (segment_part f xs (get_or given (b + 1) 0 - get_or given b 0) (get_or given b 0)
     ∙ ap (λ x. take (get_or given (b + 1) 0 - get_or given b 0) (drop (get_or given b 0) x)) is)
     ∙ (ap (λ g. entry_of (take (get_or g (b + 1) 0 - get_or g b 0) (drop (get_or g b 0) table)) (b ∷ t)) e
     ∙ entry_segment table starts size b t s)

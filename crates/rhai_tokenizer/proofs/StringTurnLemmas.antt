@@ -169,7 +169,7 @@ spaces_turn column here here' rest bytes space given more v v' n is b some front
 -- ---- the loop
 
 -- one turn: a sure run and a part
-pub record Kept (style : Style) (column : ℕ) (here here' : Place) (t last : Text) (n : ℕ) (v v' : Text)
+pub record KeptString (style : Style) (column : ℕ) (here here' : Place) (t last : Text) (n : ℕ) (v v' : Text)
     (f f' : Option CodeFault) : Type 0 where
   pub values : v' ++ value_of style column here' last ≡ v ++ value_of style column here t
   pub faults : or_fault (fault_of f') (wrong_of style here' last) ≡ or_fault (fault_of f) (wrong_of style here t)
@@ -180,7 +180,7 @@ pub record Kept (style : Style) (column : ℕ) (here here' : Place) (t last : Te
 pub turn_kept : (style : Style) (column : ℕ) (here middle here' : Place) (t more last sure front v v1 v2 : Text)
     (n m : ℕ) (f f' : Option CodeFault) → n ≡ prefix_len (is_sure style) t → sure ≡ take n t → more ≡ drop n t
     → v1 ≡ v ++ sure → middle ≡ past here sure → Took style column middle more m v1 v2 f f' → front ≡ take m more
-    → last ≡ drop m more → here' ≡ past middle front → Kept style column here here' t last (n + m) v v2 f f'
+    → last ≡ drop m more → here' ≡ past middle front → KeptString style column here here' t last (n + m) v v2 f f'
 turn_kept style column here middle here' t more last sure front v v1 v2 n m f f' n_is sure_is more_is v1_is middle_is
     took front_is last_is here_is =
     let mid : middle ≡ past here (take n t) = middle_is ∙ ap (past here) sure_is in

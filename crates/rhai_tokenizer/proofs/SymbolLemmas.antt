@@ -13,9 +13,9 @@ use Rattle.rhai_tokenizer.specs.Cutting.{cut_entry, entry_cut, goes_on, sign_cut
 use Rattle.rhai_tokenizer.specs.Tables.{Table, entry_of, lookup, symbol_table}
 use Rattle.rhai_tokenizer.specs.CuttingMeanings.{meaning_of}
 use Rattle.rhai_tokenizer.specs.Symbols.{signs, reserved_symbols, refused_symbols, symbol_lexeme}
-use Rattle.rhai_tokenizer.proofs.WordLemmas.{Right, found_right}
+use Rattle.rhai_tokenizer.proofs.WordLemmas.{MeansRight, found_right}
 
-symbols_right : Right symbol_lexeme symbol_table
+symbols_right : MeansRight symbol_lexeme symbol_table
 unfolding symbol_table signs reserved_symbols refused_symbols
 symbols_right = refl
 

@@ -14,17 +14,17 @@ use Rattle.rhai_tokenizer.specs.Tables.{Table, lookup, word_key, word_table}
 use Rattle.rhai_tokenizer.specs.CuttingMeanings.{meaning_of}
 use Rattle.rhai_tokenizer.specs.Symbols.{keywords, reserved_words, find, improper, word_lexeme}
 use Rattle.rhai_tokenizer.proofs.ByteLemmas.{same_is, same_refl, at_member}
-use Rattle.rhai_tokenizer.proofs.SegmentLemmas.{part}
+use Rattle.rhai_tokenizer.proofs.SegmentLemmas.{segment_part}
 
 -- the texts of a table mean what it says
-abbrev pub Right : (Text → Lexeme) → Table → Type 0
-Right f es = map (λ e. f e.0) es ≡ map (λ e. meaning_of e.0 e.1) es
+abbrev pub MeansRight : (Text → Lexeme) → Table → Type 0
+MeansRight f es = map (λ e. f e.0) es ≡ map (λ e. meaning_of e.0 e.1) es
 
-words_right : Right word_lexeme word_table
+words_right : MeansRight word_lexeme word_table
 unfolding word_table keywords reserved_words
 words_right = refl
 
-pub found_right : (f : Text → Lexeme) (xs : Table) (t : Text) (m : Meaning) → Right f xs → lookup xs t ≡ Some m → f t
+pub found_right : (f : Text → Lexeme) (xs : Table) (t : Text) (m : Meaning) → MeansRight f xs → lookup xs t ≡ Some m → f t
     ≡ meaning_of t m
 found_right f [] t m r h = absurd cc
 found_right f (e ∷ es) t m r h = by (same_text e.0 t) refl h (found_right f es t m more)
@@ -32,7 +32,7 @@ found_right f (e ∷ es) t m r h = by (same_text e.0 t) refl h (found_right f es
     here : f e.0 ≡ meaning_of e.0 e.1
     here = cc
 
-    more : Right f es
+    more : MeansRight f es
     more = cc
 
     by : (b : Bool) → same_text e.0 t ≡ b → cond b (Some e.1) (lookup es t) ≡ Some m
@@ -68,7 +68,7 @@ words_in : RightIn word_table word_table
 unfolding word_table
 words_in = refl
 
--- what a part of a table says of a text, the whole table says
+-- what a segment_part of a table says of a text, the whole table says
 part_found : (whole xs : Table) (n j : ℕ) (t : Text) (m : Meaning) → RightIn whole xs
     → lookup (take n (drop j xs)) t ≡ Some m → lookup whole t ≡ Some m
 part_found whole [] zero zero t m r h = absurd cc
@@ -124,7 +124,7 @@ pub key_part : {B : Type 0} (f : B → Text × Meaning) (xs : List B) (places : 
     → map f xs ≡ word_table → places ≡ WORD_PLACES → k ≡ word_key t → start ≡ get_or places k 0 - 1
     → lookup (map f (take (get_or places k 0 - start) (drop start xs))) t ≡ lookup word_table t
 key_part f xs places k start t is ps ks ss =
-    ap (λ x. lookup x t) (part f xs (get_or places k 0 - start) start
+    ap (λ x. lookup x t) (segment_part f xs (get_or places k 0 - start) start
     ∙ ap (λ x. take (get_or places k 0 - start) (drop start x)) is)
     ∙ (ap (λ s. lookup (take (get_or places k 0 - s) (drop s word_table)) t) ss
     ∙ (ap (λ p. lookup (take (get_or p k 0 - (get_or p k 0 - 1)) (drop (get_or p k 0 - 1) word_table)) t) ps

@@ -14,7 +14,7 @@ use crate::place::{FIRST_LINE, Line, line_of, pass_byte, past, place_in};
 use crate::table::BLANKS;
 
 #[inline(never)]
-fn first_text_len(mut texts: &[&[u8]], z: &[u8]) -> usize
+fn leading_text_len(mut texts: &[&[u8]], z: &[u8]) -> usize
     ensures value { result ≡ length (first_of (map (λ s. s.now) texts.entry.now) z.now) }
     ensures within { result ≤ length z.now }
 {
@@ -43,7 +43,7 @@ fn far_blank_in(line: &mut Line, at: usize, z: &[u8]) -> usize
     ensures place { place_in line.new (at + result) ≡ past (place_in line.old at) (take result z.now) }
     ensures placed { IsIn line.new (at + result) }
 {
-    let n = first_text_len(blank_texts(), z);
+    let n = leading_text_len(blank_texts(), z);
     let after = past(place_in(*line, at), &z[..n]);
     *line = line_of(after, at + n);
     n

@@ -125,7 +125,7 @@ fn brace(reading: &mut Reading, rest: &str) -> Result<usize, AllocError>
 
 // Whether a text goes on after a `}`.
 #[inline(always)]
-fn ends_block(braces: &[bool]) -> bool
+fn resumes_text(braces: &[bool]) -> bool
     ensures { result ≡ text_after Brace.Closes (reverse braces.now) }
 {
     match braces.last() {
@@ -146,7 +146,7 @@ fn end(reading: &mut Reading, rest: &str) -> Result<Option<usize>, AllocError>
     ensures none { IfOk result (λ o. o ≡ None → reading.new ≡ reading.old) }
 {
     let _rest = rest;
-    if ends_block(&reading.braces) {
+    if resumes_text(&reading.braces) {
         return Ok(None);
     }
     take(reading, Token::RightBrace, 1)?;

@@ -20,7 +20,7 @@ use Rattle.rhai_lower.specs.declared.walk.Node.{Node}
 use Rattle.rhai_grammar.specs.Imports.{is_among}
 use Rattle.rhai_grammar.specs.TreeNumbers.{has_path}
 use Rattle.rhai_trees.specs.FnNames.{counted, is_listed, texts}
-use Rattle.rhai_grammar.specs.Mentions.{Calls, Mention, Reads, by_call, by_count, by_variable, is_called, is_read}
+use Rattle.rhai_grammar.specs.Mentions.{Calls, Mention, Variable, by_call, by_count, by_variable, is_called, is_read}
 use Rattle.rhai_grammar.specs.Mentions.{own_mentions, walk_mentions}
 use Rattle.rhai_trees.specs.Noted.{AreNoted, Notes}
 use Rattle.rhai_trees.specs.declared.noted.Noted.{Noted}
@@ -38,13 +38,13 @@ no_path path e = by path.items (eqb-true _ _ e) (sym path.ok.0)
     by (p ∷ xs) e l = absurd (omega arith)
 
 pub variable_read : (v : VariableExpr) (empty : Bool) → is_some v.index ≡ false → empty ≡ true
-    → empty ≡ (vec_len v.namespace.path == 0) → by_variable (named v) ≡ Reads (rc_str_bytes v.name) ∷ []
+    → empty ≡ (vec_len v.namespace.path == 0) → by_variable (named v) ≡ Variable (rc_str_bytes v.name) ∷ []
 variable_read v empty o e p = by v.index o
   where
     by : (i : Option NonZeroUsize) → is_some i ≡ false
-        → (if is_some (option_map non_zero_usize_get i) || has_path (map written v.namespace.path.items) then [] else Reads (rc_str_bytes v.name) ∷ [])
-        ≡ Reads (rc_str_bytes v.name) ∷ []
-    by None o = ap (λ b. if b then [] else Reads (rc_str_bytes v.name) ∷ []) (no_path v.namespace.path (sym p ∙ e))
+        → (if is_some (option_map non_zero_usize_get i) || has_path (map written v.namespace.path.items) then [] else Variable (rc_str_bytes v.name) ∷ [])
+        ≡ Variable (rc_str_bytes v.name) ∷ []
+    by None o = ap (λ b. if b then [] else Variable (rc_str_bytes v.name) ∷ []) (no_path v.namespace.path (sym p ∙ e))
     by (Some x) o = absurd cc
 
 pub call_noted : (k : FnCallExpr) (empty : Bool) (count : ℕ) → (out-FnCallExpr k).script_args ≡ Some count → empty ≡ true
@@ -65,9 +65,9 @@ nothing a = record {
 
 -- one more name, which this mentions
 pub reads_it : (a b : Noted) (k : RcStr Global) (name : Text) (ms : List Mention) → b.called ≡ a.called
-    → b.read.keys ≡ insert_key rc_cmp a.read.keys k → rc_str_bytes k ≡ name → ms ≡ Reads name ∷ [] → Notes a b ms
+    → b.read.keys ≡ insert_key rc_cmp a.read.keys k → rc_str_bytes k ≡ name → ms ≡ Variable name ∷ [] → Notes a b ms
 reads_it a b k name ms c e n m =
-    subst (Notes a b) (ap (λ t. Reads t ∷ []) n ∙ sym m) (record {
+    subst (Notes a b) (ap (λ t. Variable t ∷ []) n ∙ sym m) (record {
       reads = λ name.
           ap (λ ks. is_among name (texts ks)) e ∙ inserted a.read.keys k name
           ∙ ap (λ r. is_among name (texts a.read.keys) || r) (sym (or-false _));

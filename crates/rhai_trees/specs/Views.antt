@@ -50,7 +50,7 @@ operand_fault op left right =
 
 abbrev pub part_view : Part → operator.Part
 part_view (part.Items v p) = operator.Items (views v.items) p
-part_view (part.Item e) = operator.Item (view e)
+part_view (part.Item e) = operator.Single (view e)
 
 abbrev pub indexed_view : Indexed → kind.Indexed
 indexed_view indexed.Keyed = kind.Keyed

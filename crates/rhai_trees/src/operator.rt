@@ -7,7 +7,7 @@ ghost use Rattle.rhai_grammar.specs.Answers.{Answers};
 ghost use Rattle.rhai_grammar.specs.Causes.{MemoryIsNowhere, is_for_memory, no_memory, refusal_of};
 ghost use Rattle.rhai_grammar.specs.Operators.{boolean_holds, items, joining};
 ghost use Rattle.rhai_grammar.specs.Operators.{list_of, list_position, list_tree, mismatched, no_membership};
-ghost use Rattle.rhai_grammar.specs.Operators.{operator_call, operator_result, operator_tree, part};
+ghost use Rattle.rhai_grammar.specs.Operators.{operator_call, operator_result, operator_tree, part_of_list};
 ghost use Rattle.rhai_grammar.specs.declared.role.ListKind.TheVariants.{And, Coalesce, Or};
 ghost use Rattle.rhai_trees.specs.Views.{operand_fault, part_view};
 
@@ -199,7 +199,7 @@ fn begin_list(alloc: Global, left: Part, pos: Position) -> Result<(Vec<Expr>, Po
 
 // An operand of an operator that makes lists of this kind.
 fn as_part(kind: ListKind, operand: Expr) -> Part
-    ensures { part_view result ≡ part kind (view operand) }
+    ensures { part_view result ≡ part_of_list kind (view operand) }
 {
     match kind {
         ListKind::And => and_part(operand),
@@ -210,7 +210,7 @@ fn as_part(kind: ListKind, operand: Expr) -> Part
 
 #[tactic(auto, using(rhai_lower::proofs::Views::view_and))]
 fn and_part(operand: Expr) -> Part
-    ensures { part_view result ≡ part And (view operand) }
+    ensures { part_view result ≡ part_of_list And (view operand) }
 {
     match operand {
         Expr::And(items, pos) => Part::Items(items, pos),
@@ -220,7 +220,7 @@ fn and_part(operand: Expr) -> Part
 
 #[tactic(auto, using(rhai_lower::proofs::Views::view_or))]
 fn or_part(operand: Expr) -> Part
-    ensures { part_view result ≡ part Or (view operand) }
+    ensures { part_view result ≡ part_of_list Or (view operand) }
 {
     match operand {
         Expr::Or(items, pos) => Part::Items(items, pos),
@@ -230,7 +230,7 @@ fn or_part(operand: Expr) -> Part
 
 #[tactic(auto, using(rhai_lower::proofs::Views::view_coalesce))]
 fn coalesce_part(operand: Expr) -> Part
-    ensures { part_view result ≡ part Coalesce (view operand) }
+    ensures { part_view result ≡ part_of_list Coalesce (view operand) }
 {
     match operand {
         Expr::Coalesce(items, pos) => Part::Items(items, pos),

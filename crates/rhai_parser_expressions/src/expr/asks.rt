@@ -20,7 +20,7 @@ ghost use Rattle.rhai_trees.specs.Chains.{chain_view};
 ghost use Rattle.rhai_grammar.specs.Rules.{index_on, tested};
 ghost use Rattle.rhai_grammar_reading.specs.Reading.{run};
 ghost use Rattle.rhai_grammar_reading.specs.Running.{Caller, Gives, Progress, next_item, exec, after_peek};
-ghost use Rattle.rhai_parser_shared.specs.Readers.{GoesOn, Reads, state_of};
+ghost use Rattle.rhai_parser_shared.specs.Readers.{GoesOn, ReadsGoal, state_of};
 ghost use Rattle.rhai_parser_expressions.specs.NextOperators.{operator_pair};
 ghost use Rattle.rhai_parser_expressions.specs.ExprViews.{linked};
 ghost use Rattle.rhai_parser_expressions.specs.Runs.{NextIs};
@@ -38,14 +38,14 @@ use std::alloc::{AllocError, Global};
 
 /// The operator that stands after an operand, if there is one that the filter lets pass; its token stays.
 #[inline(always)]
-pub(crate) fn next_operator(
+pub(crate) fn next_follower(
     alloc: Global,
     filter: ExprFilter,
     shared: &mut Shared<'_>,
 ) -> ParseResult<Option<Operator>>
     ensures goes_on { GoesOn shared.old shared.new }
     ensures steady { Steady shared.old shared.new }
-    ensures reads { Reads (NextOperator filter) (option_map operator_pair) shared.old result shared.new }
+    ensures reads { ReadsGoal (NextOperator filter) (option_map operator_pair) shared.old result shared.new }
     ensures next { IfOk result (λ o. NextIs filter o (state_of shared.new)) }
     ensures after { state_of shared.new ≡ after_peek (state_of shared.old) }
     ensures some { IfOk result (λ o. IsSome o → is_end (next_item (state_of shared.old)).lexeme ≡ false) }
@@ -79,7 +79,7 @@ pub(crate) fn end_index(
 
 /// The parts of a variable, or any other operand as it is.
 #[tactic(auto, using(rhai_trees::proofs::LinkedLemmas::linked_no_variable))]
-pub(crate) fn as_variable(
+pub(crate) fn variable_of_chain(
     alloc: Global,
     operand: Chain,
 ) -> Result<(Box<VariableExpr>, Position), Chain>
@@ -122,7 +122,7 @@ pub(crate) fn test_module(
 /// Whether an operand ends before the next token, which stays. The error comes where the tokenizer ran out of memory at
 /// that token.
 #[inline(always)]
-pub(crate) fn ends_here(shared: &mut Shared<'_>) -> Result<bool, AllocError>
+pub(crate) fn next_ends_operand(shared: &mut Shared<'_>) -> Result<bool, AllocError>
     ensures goes_on { GoesOn shared.old shared.new }
     ensures steady { Steady shared.old shared.new }
     ensures value { IfOk result (λ ends. ends ≡ ends_operand (next_item (state_of shared.old)).lexeme) }

@@ -7,7 +7,7 @@ ghost use Rattle.rhai_grammar.specs.Beginnings.{qualifies};
 ghost use Rattle.rhai_grammar.specs.Contexts.{Context};
 ghost use Rattle.rhai_grammar_reading.specs.Reading.{Path, Postfix};
 ghost use Rattle.rhai_grammar_reading.specs.Running.{Fails, next_item, exec, guarded, result_of};
-ghost use Rattle.rhai_parser_shared.specs.Readers.{GoesOn, Reads, state_of};
+ghost use Rattle.rhai_parser_shared.specs.Readers.{GoesOn, ReadsGoal, state_of};
 ghost use Rattle.rhai_parser_expressions.specs.ExprViews.{variable_view};
 ghost use Rattle.rhai_parser_expressions.specs.Operands.{call_if};
 ghost use Rattle.rhai_parser_shared.specs.Heights.{Steady};
@@ -35,7 +35,7 @@ pub(crate) fn next_path(
     requires { qualifies (next_item (state_of shared.old)).lexeme ≡ true }
     ensures goes_on { GoesOn shared.old shared.new }
     ensures steady { Steady shared.old shared.new }
-    ensures reads { Reads (Path frame.now.live (variable (named name.value) pos)) variable_view shared.old result
+    ensures reads { ReadsGoal (Path frame.now.live (variable (named name.value) pos)) variable_view shared.old result
         shared.new }
 {
     let mut name = name;

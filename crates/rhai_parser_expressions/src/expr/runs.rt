@@ -15,7 +15,7 @@ ghost use Rattle.rhai_parser_shared.specs.Readers.{Covers, state_of};
 ghost use Rattle.rhai_parser_expressions.specs.Runs.{Follows, ReadsSide, in_run};
 ghost use Rattle.rhai_parser_expressions.specs.Readers.{Lends, Reads, operators};
 
-use crate::expr::asks::next_operator;
+use crate::expr::asks::next_follower;
 use crate::reader::Reader;
 use rhai_base::cursor::take;
 use rhai_base::operators::Operator;
@@ -164,7 +164,7 @@ impl<R: LentReaders> Reader<'_, R> {
             shared,
             self.parse_right_operand(shared, frame, settings, place)
         )?;
-        let next = next_operator(self.engine.alloc(), frame.filter(), shared)?;
+        let next = next_follower(self.engine.alloc(), frame.filter(), shared)?;
         let deeper = settings.level_up_in_run(pos)?;
         Ok(Side {
             op_token,
@@ -190,7 +190,7 @@ impl<R: LentReaders> Reader<'_, R> {
         requires lent { Lends R.lent self.now (operators parent lhs) frame.now settings shared.old }
         ensures { Reads self.now frame.now settings 5 (operators parent lhs) chain_view shared.old result shared.new }
     {
-        let next = next_operator(self.engine.alloc(), frame.filter(), shared)?;
+        let next = next_follower(self.engine.alloc(), frame.filter(), shared)?;
         if in_run(next, parent).is_none() {
             return Ok(lhs);
         }

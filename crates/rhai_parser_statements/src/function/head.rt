@@ -4,7 +4,7 @@ ghost use Rattle.std.specs.Prelude.{◌∷◌, []};
 ghost use Rattle.std.specs.Rc.{rc_str_bytes};
 ghost use Rattle.rhai_base.specs.Comments.{comment_of};
 ghost use Rattle.rhai_grammar_reading.specs.Reading.{Comments, ParameterList};
-ghost use Rattle.rhai_parser_shared.specs.Readers.{GoesOn, Reads, comments_view, names_of};
+ghost use Rattle.rhai_parser_shared.specs.Readers.{GoesOn, ReadsGoal, comments_view, names_of};
 ghost use Rattle.rhai_parser_shared.specs.Heights.{Steady};
 
 use rhai_base::fn_heads::open_parameters;
@@ -24,7 +24,7 @@ pub(crate) fn next_comments(
 ) -> ParseResult<Vec<(RcStr, Position)>>
     ensures goes_on { GoesOn shared.old shared.new }
     ensures steady { Steady shared.old shared.new }
-    ensures reads { Reads (Comments (comment_of first ∷ [])) comments_view shared.old result shared.new }
+    ensures reads { ReadsGoal (Comments (comment_of first ∷ [])) comments_view shared.old result shared.new }
 {
     let mut comments = vec![in alloc; first]?;
     loop {
@@ -44,7 +44,7 @@ pub(crate) fn next_parameter_list(
 ) -> ParseResult<Vec<RcStr>>
     ensures goes_on { GoesOn shared.old shared.new }
     ensures steady { Steady shared.old shared.new }
-    ensures reads { Reads (ParameterList (rc_str_bytes function.now)) names_of shared.old result shared.new }
+    ensures reads { ReadsGoal (ParameterList (rc_str_bytes function.now)) names_of shared.old result shared.new }
 {
     if !open_parameters(shared.input, function)? {
         return Ok(Vec::new(alloc));

@@ -4,7 +4,7 @@ use Rattle.rhai_grammar.specs.Causes.{is_for_memory}
 use Rattle.rhai_grammar.specs.Cursors.{cursor_of}
 use Rattle.rhai_base.specs.Libraries.{library_of}
 use Rattle.rhai_parser.proofs.PromiseLemmas.{begins_same}
-use Rattle.rhai_tokenizer.specs.Readings.{Reads}
+use Rattle.rhai_tokenizer.specs.Readings.{IsCutInto}
 use Rattle.rhai_script.specs.GlobalLevels.{NestsWithin, may_go_on}
 use Rattle.rhai_script.proofs.GlobalLemmas.{host_refused, host_script, script_unread}
 use Rattle.rhai_script.proofs.global_level.compile_global_level.Goals as goal
@@ -21,7 +21,7 @@ returns-in_default-clause-grows c = begins_same c.args.lib.now.entries c.args.li
 pub returns-in-Ok-script-clause-reads : goal.returns-in-Ok-script-clause-reads
 returns-in-Ok-script-clause-reads c =
     let tokens = c.in-Ok.tokens in
-    let given : Reads c.args.text.now c.args.limits tokens = search rules in
+    let given : IsCutInto c.args.text.now c.args.limits tokens = search rules in
     let read = c.read_stream-script in
     let e = read.ensures in
     let ok : read.result.script ≡ Ok (c.in-Ok-script.statements, c.in-Ok-script.functions) = search rules in
@@ -39,7 +39,7 @@ returns-in-Ok-script-clause-reads c =
 pub returns-in-Err-clause-reads : goal.returns-in-Err-clause-reads
 returns-in-Err-clause-reads c =
     let tokens = c.in-Ok.tokens in
-    let given : Reads c.args.text.now c.args.limits tokens = search rules in
+    let given : IsCutInto c.args.text.now c.args.limits tokens = search rules in
     let read = c.read_stream-script in
     let e = read.ensures in
     let made = c.make_refused.ensures in

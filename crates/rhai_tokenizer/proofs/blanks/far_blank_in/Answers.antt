@@ -6,6 +6,6 @@ use Rattle.rhai_tokenizer.proofs.blanks.far_blank_in.Goals as goal
 
 pub line_of-requires-clause-place : goal.line_of-requires-clause-place
 line_of-requires-clause-place c =
-    let text = take c.first_text_len-n.result c.args.z.now in
+    let text = take c.leading_text_len-n.result c.args.z.now in
     subst IsPlace (sym (c.past-after.ensures ∙ ap (λ p. past p text) c.place_in.ensures))
     (past_place text (place_in c.args.line.now c.args.at) (in_place c.args.line.now c.args.at c.requires.placed))

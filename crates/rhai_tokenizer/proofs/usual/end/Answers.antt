@@ -41,7 +41,7 @@ pub returns-clause-quiet : goal.returns-clause-quiet
 returns-clause-quiet c = let taken = c.in_ok-take.ensures in record {
   code = c.in_ok-reading.ensures.text ∙ (ap (λ b. text_after brace.Closes (reverse b.items)) taken.braces
       ∙ (ap (λ x. text_after brace.Closes (reverse x)) (sym c.deref.ensures.value)
-      ∙ (sym c.ends_block.ensures ∙ c.if-ends_block.false)));
+      ∙ (sym c.resumes_text.ensures ∙ c.if-resumes_text.false)));
   opens = taken.opens ∙ c.requires.quiet.opens;
   hash = taken.hash ∙ c.requires.quiet.hash;
 }

@@ -3,7 +3,7 @@ use Rattle.std.proofs.lemmas.List.{length-map}
 use Rattle.rhai_tokenizer.specs.declared.table.TheConstants.{WORD_PLACES}
 use Rattle.rhai_tokenizer.specs.Tables.{word_table}
 use Rattle.rhai_tokenizer.proofs.WordLemmas.{key_part, place_within}
-use Rattle.rhai_tokenizer.proofs.meaning.words_like.Goals as goal
+use Rattle.rhai_tokenizer.proofs.meaning.words_of_key.Goals as goal
 
 pub slice_bounds-result-end : goal.slice_bounds-result-end
 slice_bounds-result-end c =

@@ -2,7 +2,7 @@ use Rattle.std.proofs.Common.{ap}
 use Rattle.rhai_parser_shared.specs.Readers.{state_at, state_of}
 use Rattle.rhai_parser_expressions.proofs.ExprLemmas.{next_given}
 use Rattle.rhai_parser_expressions.proofs.LookedLemmas.{next_known}
-use Rattle.rhai_parser_expressions.proofs.expr.asks.next_operator.Goals as goal
+use Rattle.rhai_parser_expressions.proofs.expr.asks.next_follower.Goals as goal
 
 pub returns-clause-reads : goal.returns-clause-reads
 returns-clause-reads c =
