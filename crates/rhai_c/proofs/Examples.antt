@@ -30,7 +30,8 @@ use Rattle.rhai_report.specs.Reports.{first_at}
 use Rattle.rhai_report.specs.declared.mark.Mark.{Mark}
 use Rattle.rhai_report.specs.declared.report.Note.{Note}
 use Rattle.rhai_report.specs.declared.report.Source.{Source}
-use Rattle.rhai_json.specs.Errors.{refusal_fields, refusal_kind, refusal_payload}
+use Rattle.rhai_grammar.specs.ErrorKinds.{refusal_kind}
+use Rattle.rhai_json.specs.Errors.{refusal_fields, refusal_payload}
 use Rattle.rhai_json.specs.Fields.{◌▷◌, flag_field, items, list_field, number_field, optional_number_field}
 use Rattle.rhai_json.specs.Fields.{optional_text_field, position_field, put, span_field, text_field}
 use Rattle.rhai_json.specs.NameLists.{names_list}

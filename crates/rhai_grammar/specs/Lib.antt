@@ -1,5 +1,6 @@
 pub mod Causes
 pub mod Messages
+pub mod ErrorKinds
 pub mod Flags
 pub mod Settings
 pub mod Keys

@@ -1,6 +1,7 @@
 //! The language: the definitions in which promises are stated, and the types that they name.
 #![tactic(auto)]
 
+mod code;
 pub mod due;
 pub mod error;
 pub mod filter;

@@ -6,6 +6,7 @@ use Rattle.json.specs.Token.{Token, begin_object, end_object, key, number, strin
 use Rattle.rhai_lower.specs.Lexemes.{Fault, ImproperSymbol, MalformedNumber, NoMemory, StringTooLong, UnexpectedInput}
 use Rattle.rhai_lower.specs.Lexemes.{UnterminatedString, fault}
 use Rattle.rhai_lower.specs.Texts.{Text}
+use Rattle.rhai_grammar.specs.ErrorKinds.{refusal_kind}
 use Rattle.rhai_grammar.specs.declared.error.InputError.{InputError}
 use Rattle.rhai_grammar.specs.declared.error.InputError.TheVariants as input
 use Rattle.rhai_grammar.specs.declared.error.ParseErrorType.{ParseErrorType}
@@ -60,43 +61,6 @@ input_payload (input.ImproperSymbol t note) ts =
 -- an input that cannot be used
 abbrev pub input_value : InputError → List Token → List Token
 input_value e ts = ts ▷ put begin_object ▷ with_payload (input_kind e) (input_payload e) ▷ put end_object
-
--- Rhai's names of the kinds of refusals
-unfoldable pub refusal_kind : ParseErrorType → Text
-refusal_kind error.UnexpectedEOF = codes "UnexpectedEOF"
-refusal_kind (error.BadInput e) = codes "BadInput"
-refusal_kind (error.UnknownOperator t) = codes "UnknownOperator"
-refusal_kind (error.MissingToken t note) = codes "MissingToken"
-refusal_kind (error.ExprExpected t) = codes "ExprExpected"
-refusal_kind (error.MismatchedType t u) = codes "MismatchedType"
-refusal_kind (error.MalformedIndexExpr t) = codes "MalformedIndexExpr"
-refusal_kind (error.MalformedCapture t) = codes "MalformedCapture"
-refusal_kind error.PropertyExpected = codes "PropertyExpected"
-refusal_kind error.VariableExpected = codes "VariableExpected"
-refusal_kind (error.Reserved t) = codes "Reserved"
-refusal_kind (error.DuplicatedProperty t) = codes "DuplicatedProperty"
-refusal_kind (error.DuplicatedVariable t) = codes "DuplicatedVariable"
-refusal_kind (error.VariableExists t) = codes "VariableExists"
-refusal_kind (error.VariableUndefined t) = codes "VariableUndefined"
-refusal_kind (error.ModuleUndefined t) = codes "ModuleUndefined"
-refusal_kind error.WrongSwitchDefaultCase = codes "WrongSwitchDefaultCase"
-refusal_kind error.WrongSwitchCaseCondition = codes "WrongSwitchCaseCondition"
-refusal_kind error.WrongSwitchIntegerCase = codes "WrongSwitchIntegerCase"
-refusal_kind error.WrongFnDefinition = codes "WrongFnDefinition"
-refusal_kind error.WrongDocComment = codes "WrongDocComment"
-refusal_kind error.FnMissingName = codes "FnMissingName"
-refusal_kind (error.FnMissingParams t) = codes "FnMissingParams"
-refusal_kind (error.FnMissingBody t) = codes "FnMissingBody"
-refusal_kind (error.FnDuplicatedParam t u) = codes "FnDuplicatedParam"
-refusal_kind (error.FnDuplicatedDefinition t n) = codes "FnDuplicatedDefinition"
-refusal_kind error.WrongExport = codes "WrongExport"
-refusal_kind (error.AssignmentToConstant t) = codes "AssignmentToConstant"
-refusal_kind (error.AssignmentToInvalidLHS t) = codes "AssignmentToInvalidLHS"
-refusal_kind error.LoopBreak = codes "LoopBreak"
-refusal_kind (error.LiteralTooLarge t n) = codes "LiteralTooLarge"
-refusal_kind error.ExprTooDeep = codes "ExprTooDeep"
-refusal_kind error.TooManyFunctions = codes "TooManyFunctions"
-refusal_kind error.OutOfMemory = codes "OutOfMemory"
 
 -- what a refusal names
 unfoldable pub refusal_payload : ParseErrorType → List Token → List Token

@@ -4,6 +4,7 @@ use Rattle.std.specs.Prelude.{◌≡◌, ℕ, Option, List, [], ◌∷◌, codes
 use Rattle.std.specs.Char.{encode_utf8}
 use Rattle.std.specs.Fmt.{digits}
 use Rattle.json.specs.Token.{Token, begin_array, begin_object, end_array, end_object, key, null, number, string}
+use Rattle.rhai_lower.specs.Kinds.{statement_kind}
 use Rattle.rhai_lower.specs.Lexemes
 use Rattle.rhai_lower.specs.Lexemes.{Character, Comment, Faulty, Integer, Interpolated, Lexeme, Name, Reserved, Sign}
 use Rattle.rhai_lower.specs.Nodes
@@ -48,24 +49,6 @@ kind_of (conjunction xs p) = codes "And"
 kind_of (disjunction xs p) = codes "Or"
 kind_of (coalescing xs p) = codes "Coalesce"
 kind_of (block_value b) = codes "Stmt"
-
-unfoldable pub statement_kind : Statement → Text
-statement_kind (noop p) = codes "Noop"
-statement_kind (if_statement guard body branch p) = codes "If"
-statement_kind (switch_statement x arms cases ranges d p) = codes "Switch"
-statement_kind (while_statement guard body p) = codes "While"
-statement_kind (do_statement guard body negated p) = codes "Do"
-statement_kind (for_statement name counter over body p) = codes "For"
-statement_kind (var_statement name value i c e p) = codes "Var"
-statement_kind (assignment op target value p) = codes "Assignment"
-statement_kind (expression x) = codes "Expr"
-statement_kind (block_statement b) = codes "Block"
-statement_kind (try_catch body name branch p) = codes "TryCatch"
-statement_kind (break_loop value breaks p) = codes "BreakLoop"
-statement_kind (return_statement value throws p) = codes "Return"
-statement_kind (import_statement path name p) = codes "Import"
-statement_kind (export_statement name alias p) = codes "Export"
-statement_kind (share vs p) = codes "Share"
 
 -- how an operator's token is written, which has no payload
 abbrev pub sign_text : Lexeme → Text

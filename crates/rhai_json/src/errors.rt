@@ -5,7 +5,7 @@ ghost use Rattle.json.specs.Token.{begin_object, key};
 ghost use Rattle.rhai_lower.specs.Lexemes.{fault};
 ghost use Rattle.rhai_json.specs.Fields.{◌▷◌, number_field, put, text_field};
 ghost use Rattle.rhai_json.specs.Errors.{fault_kind, fault_payload, fault_value, input_kind, input_payload};
-ghost use Rattle.rhai_json.specs.Errors.{input_value, refusal_fields, refusal_kind, refusal_payload, texts};
+ghost use Rattle.rhai_json.specs.Errors.{input_value, refusal_fields, refusal_payload, texts};
 
 use crate::fields::{put_number, put_text};
 use crate::out::Out;
@@ -137,49 +137,6 @@ fn put_input_error(out: &mut Out, error: &InputError) -> Result<(), AllocError>
     out.end_object()
 }
 
-// Rhai's name of the kind of a refusal.
-#[tactic(auto, unfolding(crate::specs::Errors::refusal_kind))]
-fn kind_name(kind: &ParseErrorType) -> &'static str
-    ensures { result.now ≡ refusal_kind kind.now }
-{
-    match kind {
-        ParseErrorType::UnexpectedEOF => "UnexpectedEOF",
-        ParseErrorType::BadInput(_) => "BadInput",
-        ParseErrorType::UnknownOperator(_) => "UnknownOperator",
-        ParseErrorType::MissingToken(_, _) => "MissingToken",
-        ParseErrorType::ExprExpected(_) => "ExprExpected",
-        ParseErrorType::MismatchedType(_, _) => "MismatchedType",
-        ParseErrorType::MalformedIndexExpr(_) => "MalformedIndexExpr",
-        ParseErrorType::MalformedCapture(_) => "MalformedCapture",
-        ParseErrorType::PropertyExpected => "PropertyExpected",
-        ParseErrorType::VariableExpected => "VariableExpected",
-        ParseErrorType::Reserved(_) => "Reserved",
-        ParseErrorType::DuplicatedProperty(_) => "DuplicatedProperty",
-        ParseErrorType::DuplicatedVariable(_) => "DuplicatedVariable",
-        ParseErrorType::VariableExists(_) => "VariableExists",
-        ParseErrorType::VariableUndefined(_) => "VariableUndefined",
-        ParseErrorType::ModuleUndefined(_) => "ModuleUndefined",
-        ParseErrorType::WrongSwitchDefaultCase => "WrongSwitchDefaultCase",
-        ParseErrorType::WrongSwitchCaseCondition => "WrongSwitchCaseCondition",
-        ParseErrorType::WrongSwitchIntegerCase => "WrongSwitchIntegerCase",
-        ParseErrorType::WrongFnDefinition => "WrongFnDefinition",
-        ParseErrorType::WrongDocComment => "WrongDocComment",
-        ParseErrorType::FnMissingName => "FnMissingName",
-        ParseErrorType::FnMissingParams(_) => "FnMissingParams",
-        ParseErrorType::FnMissingBody(_) => "FnMissingBody",
-        ParseErrorType::FnDuplicatedParam(_, _) => "FnDuplicatedParam",
-        ParseErrorType::FnDuplicatedDefinition(_, _) => "FnDuplicatedDefinition",
-        ParseErrorType::WrongExport => "WrongExport",
-        ParseErrorType::AssignmentToConstant(_) => "AssignmentToConstant",
-        ParseErrorType::AssignmentToInvalidLHS(_) => "AssignmentToInvalidLHS",
-        ParseErrorType::LoopBreak => "LoopBreak",
-        ParseErrorType::LiteralTooLarge(_, _) => "LiteralTooLarge",
-        ParseErrorType::ExprTooDeep => "ExprTooDeep",
-        ParseErrorType::TooManyFunctions => "TooManyFunctions",
-        ParseErrorType::OutOfMemory => "OutOfMemory",
-    }
-}
-
 // What a refusal names.
 #[tactic(auto, unfolding(crate::specs::Errors::refusal_payload))]
 fn put_payload(out: &mut Out, kind: &ParseErrorType) -> Result<(), AllocError>
@@ -224,7 +181,7 @@ fn put_payload(out: &mut Out, kind: &ParseErrorType) -> Result<(), AllocError>
 pub fn put_refusal(out: &mut Out, kind: &ParseErrorType) -> Result<(), AllocError>
     ensures { OnOk result (out.new ≡ refusal_fields kind.now out.old) }
 {
-    begin_payload(out, kind_name(kind))?;
+    begin_payload(out, kind.kind())?;
     put_payload(out, kind)?;
     out.end_object()
 }

@@ -5,6 +5,7 @@ pub mod Symbols
 pub mod Lexemes
 pub mod Names
 pub mod Nodes
+pub mod Kinds
 pub mod NameIndexes
 pub mod LatestNames
 pub mod Slots

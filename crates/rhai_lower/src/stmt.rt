@@ -1,6 +1,7 @@
 //! `Stmt`: the statements of the tree.
 
 ghost use Rattle.std.specs.Prelude.{◌≡◌, IfOk};
+ghost use Rattle.rhai_lower.specs.Kinds.{statement_kind};
 ghost use Rattle.rhai_lower.specs.Nodes.{block_of_one, made_block, statement_position};
 ghost use Rattle.rhai_lower.specs.declared.stmt.StmtBlock.{out-StmtBlock};
 ghost use Rattle.rhai_lower.specs.View.{block_view, statement_view};
@@ -242,6 +243,31 @@ impl Stmt {
             Stmt::Import { pos, .. } => *pos,
             Stmt::Export { pos, .. } => *pos,
             Stmt::Share(_, pos) => *pos,
+        }
+    }
+
+    /// Rhai's name of the kind of the statement, as `TryCatch`. Does not allocate.
+    #[tactic(auto, unfolding(crate::specs::Kinds::statement_kind))]
+    pub fn kind(&self) -> &'static str
+        ensures { result.now ≡ statement_kind (statement_view self.now) }
+    {
+        match self {
+            Stmt::Noop(_) => "Noop",
+            Stmt::If(_, _) => "If",
+            Stmt::Switch { .. } => "Switch",
+            Stmt::While(_, _) => "While",
+            Stmt::Do { .. } => "Do",
+            Stmt::For(_, _) => "For",
+            Stmt::Var { .. } => "Var",
+            Stmt::Assignment { .. } => "Assignment",
+            Stmt::Expr(_) => "Expr",
+            Stmt::Block(_) => "Block",
+            Stmt::TryCatch(_, _) => "TryCatch",
+            Stmt::BreakLoop { .. } => "BreakLoop",
+            Stmt::Return { .. } => "Return",
+            Stmt::Import { .. } => "Import",
+            Stmt::Export { .. } => "Export",
+            Stmt::Share(_, _) => "Share",
         }
     }
 }

@@ -14,7 +14,6 @@ ghost use Rattle.rhai_json.specs.Fields.{text_field};
 ghost use Rattle.rhai_json.specs.Left.{all_json, arms, block, cases, list_of, name, node, optional_view, pieces};
 ghost use Rattle.rhai_json.specs.Left.{statement_weight, value_piece, weights};
 ghost use Rattle.rhai_json.specs.Trees.{range_value, shared_value, statement_begun, statement_fields, statement_json};
-ghost use Rattle.rhai_json.specs.Trees.{statement_kind as kind_of};
 
 use crate::cases::put_ranges;
 use crate::fields::{
@@ -28,31 +27,6 @@ use rhai_lower::{
 };
 use std::alloc::AllocError;
 use std::num::NonZeroUsize;
-
-// Rhai's name of the kind of a statement.
-#[tactic(auto, unfolding(crate::specs::Trees::statement_kind))]
-fn statement_kind(statement: &Stmt) -> &'static str
-    ensures { result.now ≡ kind_of (statement_view statement.now) }
-{
-    match statement {
-        Stmt::Noop(_) => "Noop",
-        Stmt::If(_, _) => "If",
-        Stmt::Switch { .. } => "Switch",
-        Stmt::While(_, _) => "While",
-        Stmt::Do { .. } => "Do",
-        Stmt::For(_, _) => "For",
-        Stmt::Var { .. } => "Var",
-        Stmt::Assignment { .. } => "Assignment",
-        Stmt::Expr(_) => "Expr",
-        Stmt::Block(_) => "Block",
-        Stmt::TryCatch(_, _) => "TryCatch",
-        Stmt::BreakLoop { .. } => "BreakLoop",
-        Stmt::Return { .. } => "Return",
-        Stmt::Import { .. } => "Import",
-        Stmt::Export { .. } => "Export",
-        Stmt::Share(_, _) => "Share",
-    }
-}
 
 fn put_switch(out: &mut Out, cases: &SwitchCasesCollection) -> Result<(), AllocError>
     ensures { OnOk result (out.new ≡ out.old
@@ -248,11 +222,7 @@ impl<'a> Printer<'a> {
         ensures less { OnOk result (weights (pieces self.new)
             < statement_weight (statement_view statement.now) + weights (pieces self.old)) }
     {
-        begin_node(
-            &mut self.out,
-            statement_kind(statement),
-            statement.position(),
-        )?;
+        begin_node(&mut self.out, statement.kind(), statement.position())?;
         put_statement_fields(&mut self.out, statement)?;
         self.push_statement_parts(statement)
     }

@@ -53,15 +53,21 @@ pub fn print_block_line(text: &mut String, block: &StmtBlock) -> Result<(), Allo
 
 /// The line of a statement. An empty statement has none.
 pub fn print_statement_line(text: &mut String, statement: &Stmt) -> Result<(), AllocError> {
+    let kind = statement.kind();
     match statement {
         Stmt::Noop(_) => Ok(()),
         Stmt::Block(block) => print_block_line(text, block),
-        Stmt::If(_, pos) => writeln!(text, "If {pos}"),
-        Stmt::Switch { cases, pos, .. } => {
-            writeln!(text, "Switch {pos} {}", Optional(cases.def_case))
+        Stmt::If(_, pos) | Stmt::While(_, pos) | Stmt::TryCatch(_, pos) => {
+            writeln!(text, "{kind} {pos}")
         }
-        Stmt::While(_, pos) => writeln!(text, "While {pos}"),
-        Stmt::Do { negated, pos, .. } => writeln!(text, "Do {pos} {}", mark("NEGATED", *negated)),
+        Stmt::Switch { cases, pos, .. } => {
+            writeln!(text, "{kind} {pos} {}", Optional(cases.def_case))
+        }
+        Stmt::Do { negated, pos, .. } => writeln!(
+            text,
+            "{kind} {pos} {}",
+            mark("NEGATED", *negated)
+        ),
         Stmt::For(control, pos) => print_for(text, control, *pos),
         Stmt::Var {
             name,
@@ -74,22 +80,21 @@ pub fn print_statement_line(text: &mut String, statement: &Stmt) -> Result<(), A
             let (constant, exported) = var_marks(*constant, *exported);
             writeln!(
                 text,
-                "Var {pos} {name} {} {constant} {exported}",
+                "{kind} {pos} {name} {} {constant} {exported}",
                 number(*index)
             )
         }
         Stmt::Assignment { op, pos, .. } => print_assignment(text, op, *pos),
-        Stmt::Expr(_) => text.push_str("Expr\n"),
-        Stmt::TryCatch(_, pos) => writeln!(text, "TryCatch {pos}"),
+        Stmt::Expr(_) => writeln!(text, "{kind}"),
         Stmt::BreakLoop { breaks, pos, .. } => {
-            writeln!(text, "BreakLoop {pos} {}", mark("BREAK", *breaks))
+            writeln!(text, "{kind} {pos} {}", mark("BREAK", *breaks))
         }
         Stmt::Return { throws, pos, .. } => {
-            writeln!(text, "Return {pos} {}", mark("BREAK", *throws))
+            writeln!(text, "{kind} {pos} {}", mark("BREAK", *throws))
         }
-        Stmt::Import { name, pos, .. } => writeln!(text, "Import {pos} {}", Escaped(name)),
+        Stmt::Import { name, pos, .. } => writeln!(text, "{kind} {pos} {}", Escaped(name)),
         Stmt::Export { name, alias, pos } => {
-            writeln!(text, "Export {pos} {name} {}", Escaped(alias))
+            writeln!(text, "{kind} {pos} {name} {}", Escaped(alias))
         }
         Stmt::Share(variables, pos) => print_share(text, variables, *pos),
     }
