@@ -1,5 +1,5 @@
-//! The base of the readers: settings, state, frames, look-ups, and the library; the cursor, and leaves, which ask of
-//! tokens or take them without reading an expression. The nodes of values and names are here too.
+//! What readers stand on: settings, state, frames, look-ups, the library, the cursor, and leaves. Leaves test or take
+//! tokens, and read no expression. The nodes of values and names are here too.
 #![tactic(auto)]
 
 pub mod allowed;

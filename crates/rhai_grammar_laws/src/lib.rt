@@ -1,4 +1,4 @@
-//! What is written where, as data: productions, their readers and forms, and laws of them.
+//! Laws of the language, and worked rows: what follows from its definitions.
 #![tactic(auto)]
 
 pub mod entry_rows;

@@ -1,5 +1,5 @@
-//! Lists of tokens, for programs: how they are read, what is printed of a tree or a refusal, the command line, and how
-//! an answer or a failure is told. docs/FORMAT.md describes all of it.
+//! What the programs share: lists of tokens, printed trees and refusals, the command line. How an answer or a failure
+//! is told is here too. docs/FORMAT.md describes all of it.
 #![tactic(auto)]
 
 pub mod answer;

@@ -1,4 +1,4 @@
-//! The base of the parser: tokens, their stream, the scope, the tree, the optimizer's interface. Positions and names
+//! What all crates stand on: tokens, their stream, the scope, the tree, the optimizer's interface. Positions and names
 //! are here too.
 #![tactic(auto)]
 

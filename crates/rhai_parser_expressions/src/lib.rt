@@ -1,4 +1,4 @@
-//! Readers of expressions: operands, operators, links, and closures.
+//! Readers of expressions: operators, signs, links, calls, and operands of one token.
 #![tactic(auto)]
 
 mod chain;

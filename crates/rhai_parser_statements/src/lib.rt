@@ -1,5 +1,5 @@
-//! Readers of statements: definitions, jumps, functions, and constructs that have a keyword: conditions, loops, `try`,
-//! and `switch`.
+//! Readers of statements: definitions, jumps, functions, and constructs. Constructs are blocks, conditions, loops,
+//! `try` and `switch`.
 #![tactic(auto)]
 
 mod blocks;
