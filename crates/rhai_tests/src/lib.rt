@@ -2,30 +2,14 @@
 #![tactic(auto)]
 
 #[cfg(test)]
-mod allocation;
+mod answers;
 #[cfg(test)]
-mod caller_settings;
+mod base;
 #[cfg(test)]
-mod fn_names;
+mod cases;
 #[cfg(test)]
-mod libraries;
+mod documents;
 #[cfg(test)]
-mod long_scripts;
-#[cfg(test)]
-mod lookups;
-#[cfg(test)]
-mod modules;
-#[cfg(test)]
-mod nesting;
-#[cfg(test)]
-mod optimizing;
-#[cfg(test)]
-mod plugged;
-#[cfg(test)]
-mod random_scripts;
-#[cfg(test)]
-mod readme;
+mod parser;
 #[cfg(test)]
 mod script;
-#[cfg(test)]
-mod states;

@@ -1,7 +1,7 @@
 //! Scripts as the tests write them: tokens in one line, with one blank between two. Each stands at its column of line
 //! 1, and the end mark at no position.
 
-use rhai_lists::refusal;
+use crate::answers::check;
 use rhai_parser::{
     AST, Engine, Entry, FnLib, LangOptions, OptimizationLevel, ParseResult, ParseSettingFlags,
     ParseSettings, ParseState, Position, Scope, Token, TokenStream, TokenizerControl, nest_peak,
@@ -183,25 +183,6 @@ impl Change {
             }
         }
     }
-}
-
-/// Compares an answer with what the program prints of it: `accepted`, or what stands after the word `refused`. Where
-/// memory ran out, the answer is want of memory, and so is the result.
-pub(crate) fn check<T: Drop>(
-    rt: &impl Abort,
-    alloc: Global,
-    answer: ParseResult<T>,
-    wanted: &str,
-) -> Result<(), AllocError> {
-    let printed = match answer {
-        Ok(_) => String::from_str(alloc, "accepted")?,
-        Err(error) => refusal(alloc, &error)?,
-    };
-    assert!(rt;
-        printed.as_str() == wanted,
-        "{printed} in place of {wanted}"
-    );
-    Ok(())
 }
 
 /// How many tokens of a line were taken of a stream.

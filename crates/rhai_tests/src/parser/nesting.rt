@@ -1,7 +1,8 @@
 //! How deeply scripts may nest, and how many parsing functions are active then. Two tests make all rows, as in
 //! `allocation`: the one that is `.._refused` holds however memory is refused.
 
-use crate::script::{Change, check, stream_of, stream_of_line, test_expr, test_script};
+use crate::answers::check;
+use crate::script::{Change, stream_of, stream_of_line, test_expr, test_script};
 use rhai_parser::{
     Engine, FnLib, LangOptions, ParseSettingFlags, ParseSettings, ParseState, Position,
     TokenizerControl, nest_peak,

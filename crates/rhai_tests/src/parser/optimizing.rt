@@ -1,7 +1,7 @@
 //! The entry point that passes a script to the optimizer, at each level. Two tests make all rows, as in `allocation`:
 //! the one that is `.._refused` holds however memory is refused.
 
-use crate::libraries::{Functions, holds_ended};
+use super::libraries::{Functions, holds_ended};
 use crate::script::{stream_of_line, tokens_taken};
 use rhai_lists::answered;
 use rhai_parser::{AST, Engine, FnLib, OptimizationLevel, ParseState, TokenizerControl};

@@ -1,9 +1,5 @@
 //! Tests of the crates below the parser: calls that may run out of memory, and text mode.
-#![tactic(auto)]
 
-#[cfg(test)]
-mod base_allocation;
-#[cfg(test)]
+mod allocation;
 mod text_allocation;
-#[cfg(test)]
 mod text_mode;

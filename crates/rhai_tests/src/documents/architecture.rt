@@ -3,7 +3,8 @@
 ghost use Rattle.std.specs.Prelude.{All, IsTrue};
 ghost use Rattle.rhai_lower.specs.Entries.{may_be_delivered};
 
-use crate::script::{add_line, check};
+use crate::answers::check;
+use crate::script::add_line;
 use rhai_parser::{
     AST, Engine, Entry, FnLib, OptimizationLevel, ParseResult, ParseState, Position, TokenStream,
     TokenizerControl,

@@ -1,8 +1,8 @@
 //! Texts of scripts: what a host goes on with, and when a prompt asks for more. Others come from outside of the crate:
 //! tests/compile.py gives them on standard input, made of the table of cases. Without an input that test does nothing.
 
+use super::lists::{Kind, read_words};
 use crate::answers::check;
-use crate::lists::{Kind, read_words};
 use rhai_lists::{answered, refusal};
 use rhai_parser::{AST, Engine, FnLib, LangOptions, ParseResult, Scope};
 use rhai_script::{

@@ -1,6 +1,6 @@
 //! The call that reads a script for the names that its functions need.
 
-use crate::libraries::{Functions, holds_ended};
+use super::libraries::{Functions, holds_ended};
 use crate::script::{stream_of_line, tokens_taken};
 use rhai_names::{FnNames, names_of_script};
 use rhai_parser::{

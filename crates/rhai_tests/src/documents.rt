@@ -1,0 +1,4 @@
+//! The code that documents show.
+
+mod architecture;
+mod readme;
