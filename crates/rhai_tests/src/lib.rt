@@ -6,6 +6,8 @@ mod answers;
 #[cfg(test)]
 mod base;
 #[cfg(test)]
+mod calls;
+#[cfg(test)]
 mod cases;
 #[cfg(test)]
 mod documents;

@@ -1,10 +1,11 @@
 //! Scripts as the tests write them: tokens in one line, with one blank between two. Each stands at its column of line
 //! 1, and the end mark at no position.
 
-use crate::answers::check;
+use crate::answers::{check, told};
+use crate::calls::{Change, expr_of, new_state, read_script};
 use rhai_parser::{
-    AST, Engine, Entry, FnLib, LangOptions, OptimizationLevel, ParseResult, ParseSettingFlags,
-    ParseSettings, ParseState, Position, Scope, Token, TokenStream, TokenizerControl, nest_peak,
+    Engine, Entry, FnLib, OptimizationLevel, ParseState, Position, Scope, Token, TokenStream,
+    nest_peak,
 };
 use std::alloc::{AllocError, Global};
 use std::process::Abort;
@@ -147,42 +148,18 @@ pub(crate) fn stream_of_line(
 }
 
 /// What the parser answers to these tokens as an expression, without a limit of depth.
-pub(crate) fn parse(rt: &impl Abort, alloc: Global, entries: Vec<Entry>) -> ParseResult<AST> {
+pub(crate) fn parse(
+    rt: &impl Abort,
+    alloc: Global,
+    entries: Vec<Entry>,
+) -> Result<String, AllocError> {
     let mut input = stream_of(rt, entries);
     let mut lib = FnLib::new(alloc);
-    let state = ParseState::new(alloc, None, &mut input, TokenizerControl, &mut lib);
     let mut engine = Engine::new(alloc);
     engine.set_max_expr_depth(0);
-    engine.parse_global_expr(state, |_settings| {}, OptimizationLevel::None)
-}
-
-/// What the caller's closure does to the settings.
-#[derive(Clone, Copy)]
-pub(crate) enum Change {
-    Nothing,
-    Set(ParseSettingFlags),
-    Clear(ParseSettingFlags),
-    With(LangOptions),
-    Without(LangOptions),
-    // A level, and the greatest one.
-    Depth(usize, usize),
-}
-
-impl Change {
-    /// Makes the change.
-    pub(crate) fn apply(self, settings: &mut ParseSettings) {
-        match self {
-            Change::Nothing => {}
-            Change::Set(flags) => settings.flags |= flags,
-            Change::Clear(flags) => settings.flags -= flags,
-            Change::With(options) => settings.options |= options,
-            Change::Without(options) => settings.options -= options,
-            Change::Depth(level, limit) => {
-                settings.level = level;
-                settings.max_expr_depth = limit;
-            }
-        }
-    }
+    let (nothing, level) = (Change::Nothing, OptimizationLevel::None);
+    let answer = expr_of(alloc, &engine, None, nothing, level, &mut input, &mut lib);
+    told(alloc, answer)
 }
 
 /// How many tokens of a line were taken of a stream.
@@ -207,6 +184,23 @@ fn check_library(rt: &impl Abort, lib: &FnLib, before: usize, input: &mut TokenS
     );
 }
 
+// What the parser answers to an expression, whose closure is in the library only if it ended.
+fn read_line(
+    rt: &impl Abort,
+    alloc: Global,
+    engine: &Engine,
+    change: Change,
+    constants: Option<&Scope>,
+    input: &mut TokenStream,
+    line: &str,
+) -> Result<String, AllocError> {
+    let mut lib = FnLib::new(alloc);
+    let level = OptimizationLevel::Full;
+    let answer = expr_of(alloc, engine, constants, change, level, input, &mut lib);
+    check_library(rt, &lib, 0, input, line);
+    told(alloc, answer)
+}
+
 /// Wants this answer to a line that is one expression, in this state, and its closure in the library only if it ended.
 pub(crate) fn test_expr_in(
     rt: &impl Abort,
@@ -217,12 +211,8 @@ pub(crate) fn test_expr_in(
     (line, wanted): (&str, &str),
 ) -> Result<(), AllocError> {
     let mut input = stream_of_line(rt, alloc, line)?;
-    let mut lib = FnLib::new(alloc);
-    let state = ParseState::new(alloc, constants, &mut input, TokenizerControl, &mut lib);
-    let settings = |settings: &mut ParseSettings| change.apply(settings);
-    let answer = engine.parse_global_expr(state, settings, OptimizationLevel::Full);
-    check_library(rt, &lib, 0, &mut input, line);
-    check(rt, alloc, answer, wanted)
+    let answer = read_line(rt, alloc, engine, change, constants, &mut input, line)?;
+    check(rt, &answer, wanted)
 }
 
 /// Wants this answer to a line that is one expression, where the caller gives no constants.
@@ -236,7 +226,8 @@ pub(crate) fn test_expr(
     test_expr_in(rt, alloc, engine, change, None, row)
 }
 
-/// Wants this answer to a line that is a script, in this state, and its function in the library only if it ended.
+/// Wants this answer to a line that is a script, in this state, and its function in the library only if it ended. The
+/// result is how many grammar functions were active at once.
 pub(crate) fn test_script_in(
     rt: &impl Abort,
     alloc: Global,
@@ -244,13 +235,14 @@ pub(crate) fn test_script_in(
     change: Change,
     state: &mut ParseState<'_, '_, '_>,
     (line, wanted): (&str, &str),
-) -> Result<(), AllocError> {
+) -> Result<usize, AllocError> {
     *state.input = stream_of_line(rt, alloc, line)?;
     let before = state.lib.len();
-    let settings = |settings: &mut ParseSettings| change.apply(settings);
-    let answer = engine.parse_global_level(state, settings);
+    let answer = read_script(engine, state, change);
     check_library(rt, state.lib, before, state.input, line);
-    check(rt, alloc, answer, wanted)
+    let answer = told(alloc, answer)?;
+    check(rt, &answer, wanted)?;
+    Ok(nest_peak(state))
 }
 
 /// Wants this answer to a line that is a script. The result is how many grammar functions were active at once.
@@ -263,7 +255,6 @@ pub(crate) fn test_script(
 ) -> Result<usize, AllocError> {
     let mut input = stream_of(rt, Vec::new(alloc));
     let mut lib = FnLib::new(alloc);
-    let mut state = ParseState::new(alloc, None, &mut input, TokenizerControl, &mut lib);
-    test_script_in(rt, alloc, engine, change, &mut state, row)?;
-    Ok(nest_peak(&state))
+    let mut state = new_state(alloc, None, &mut input, &mut lib);
+    test_script_in(rt, alloc, engine, change, &mut state, row)
 }

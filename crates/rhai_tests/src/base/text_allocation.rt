@@ -3,7 +3,7 @@
 //! with ample memory. The other, `.._refused`, lets it end early, and holds however memory is refused
 //! (tests/hostile/calls.py): what was asserted on the way has to hold all the same.
 
-use rhai_lower::{LexError, Token};
+use rhai_lower::{Entry, LexError, Token};
 use rhai_tokenizer::{Limits, Tokens, tokenize};
 use std::alloc::{AllocError, Global};
 use std::process::Abort;
@@ -21,23 +21,58 @@ fn tokens_of(
     alloc: Global,
     text: &str,
     count: usize,
-) -> Result<Tokens, AllocError> {
-    let tokens = tokenize(alloc, text, LIMITS)?;
-    assert!(rt; tokens.entries.len() == count && tokens.spans.len() > count);
-    Ok(tokens)
+) -> Result<Vec<Entry>, AllocError> {
+    let Tokens { entries, spans, .. } = tokenize(alloc, text, LIMITS)?;
+    assert!(rt; entries.len() == count && spans.len() > count);
+    Ok(entries)
+}
+
+// What a token is, of those that the tests look at, with its text.
+fn kind_and_text(token: &Token) -> (&str, &str) {
+    match token {
+        Token::Let => ("let", ""),
+        Token::Identifier(text) => ("name", text.as_str()),
+        Token::Reserved(text) => ("reserved", text.as_str()),
+        Token::StringConstant(text) => ("string", text.as_str()),
+        Token::InterpolatedString(text) => ("interpolated", text.as_str()),
+        Token::Comment(text) => ("comment", text.as_str()),
+        Token::LexError(error) => ("error", too_long(error)),
+        _ => ("other", ""),
+    }
+}
+
+fn too_long(error: &LexError) -> &str {
+    match error {
+        LexError::StringTooLong(5) => "longer than 5",
+        _ => "",
+    }
+}
+
+// Wants each of these places to have a token of this kind, with this text.
+fn check(rt: &impl Abort, entries: &[Entry], wanted: &[(usize, &str, &str)]) {
+    for (place, kind, text) in wanted {
+        let found = match entries.get(*place) {
+            Some(entry) => kind_and_text(&entry.token),
+            None => ("none", ""),
+        };
+        assert!(rt; found == (*kind, *text), "token {place}");
+    }
+}
+
+// Whether the token at a place is marked as text.
+fn mark(entries: &[Entry], place: usize) -> Option<bool> {
+    match entries.get(place) {
+        Some(entry) => Some(entry.text),
+        None => None,
+    }
 }
 
 // More tokens than the first rooms of the vectors hold, and more names than those of the table.
 fn words(rt: &impl Abort, alloc: Global) -> Result<(), AllocError> {
     let text = "a b c d e f g h i j k l m n o p q r s t u v w x y z this print __ a let";
     let tokens = tokens_of(rt, alloc, text, 31)?;
-    assert!(rt; tokens.entries.len() > 30 && matches!(&tokens.entries[30].token, Token::Let));
-    assert!(rt;
-        matches!(&tokens.entries[26].token, Token::Reserved(word) if word.as_str() == "this")
-    );
-    assert!(rt;
-        matches!(&tokens.entries[29].token, Token::Identifier(name) if name.as_str() == "a")
-    );
+    let wanted = [(30, "let", ""), (26, "reserved", "this"), (29, "name", "a")];
+    check(rt, &tokens, &wanted);
     Ok(())
 }
 
@@ -55,20 +90,15 @@ fn words_refused(rt: HostRuntime) {
 fn strings(rt: &impl Abort, alloc: Global) -> Result<(), AllocError> {
     let text = "/// doc\n/** doc */ \"a\\tb\\x41\" `a${`b${c}`}d` #\"e\"# 'f' \"a\\\n   b\"";
     let tokens = tokens_of(rt, alloc, text, 15)?;
-    assert!(rt; tokens.entries.len() > 14);
-    assert!(rt;
-        matches!(&tokens.entries[0].token, Token::Comment(text) if text.as_str() == "/// doc")
-    );
-    assert!(rt;
-        matches!(&tokens.entries[2].token, Token::StringConstant(text) if text.as_str() == "a\tbA")
-    );
-    assert!(rt;
-        matches!(&tokens.entries[3].token, Token::InterpolatedString(text) if text.as_str() == "a")
-    );
-    assert!(rt; tokens.entries[9].text && tokens.entries[11].text && !tokens.entries[12].text);
-    assert!(rt;
-        matches!(&tokens.entries[12].token, Token::StringConstant(text) if text.as_str() == "e")
-    );
+    let wanted = [
+        (0, "comment", "/// doc"),
+        (2, "string", "a\tbA"),
+        (3, "interpolated", "a"),
+        (12, "string", "e"),
+    ];
+    check(rt, &tokens, &wanted);
+    let marks = (mark(&tokens, 9), mark(&tokens, 11), mark(&tokens, 12));
+    assert!(rt; marks == (Some(true), Some(true), Some(false)));
     Ok(())
 }
 
@@ -82,20 +112,23 @@ fn strings_refused(rt: HostRuntime) {
     let _ = strings(&rt, rt.alloc());
 }
 
+// How many of these tokens are errors.
+fn error_count(entries: &[Entry]) -> usize {
+    let mut count = 0usize;
+    for entry in entries {
+        if kind_and_text(&entry.token).0 == "error" {
+            count = count.saturating_add(1);
+        }
+    }
+    count
+}
+
 // Each kind of error.
 fn errors(rt: &impl Abort, alloc: Global) -> Result<(), AllocError> {
     let text = "\"\\q\" \"\\x4\" '' 'ab' 99999999999999999999 0b2 === \u{e9} \"abcdef\" \"";
     let tokens = tokens_of(rt, alloc, text, 10)?;
-    for entry in &tokens.entries {
-        assert!(rt; matches!(&entry.token, Token::LexError(_)));
-    }
-    assert!(rt; tokens.entries.len() > 8);
-    assert!(rt;
-        matches!(
-            &tokens.entries[8].token,
-            Token::LexError(LexError::StringTooLong(5))
-        )
-    );
+    assert!(rt; error_count(&tokens) == 10);
+    check(rt, &tokens, &[(8, "error", "longer than 5")]);
     Ok(())
 }
 
@@ -111,13 +144,9 @@ fn errors_refused(rt: HostRuntime) {
 
 // Braces that are open, so many that they have to grow.
 fn braces(rt: &impl Abort, alloc: Global) -> Result<(), AllocError> {
-    let tokens = tokens_of(
-        rt,
-        alloc,
-        "{{{{{{{{{{{{{{{{{{{{#{ `${{}}` }}}}}}}}}}}}}}}}}}}}}",
-        48,
-    )?;
-    assert!(rt; tokens.entries.len() > 47 && tokens.entries[26].text && !tokens.entries[47].text);
+    let text = "{{{{{{{{{{{{{{{{{{{{#{ `${{}}` }}}}}}}}}}}}}}}}}}}}}";
+    let tokens = tokens_of(rt, alloc, text, 48)?;
+    assert!(rt; (mark(&tokens, 26), mark(&tokens, 47)) == (Some(true), Some(false)));
     Ok(())
 }
 

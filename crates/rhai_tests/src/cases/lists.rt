@@ -2,13 +2,13 @@
 //! give one on standard input, from the table of cases, and compare what is printed. tests/quick.py gives the whole
 //! table as a file. Without an input the tests do nothing.
 
+use crate::calls::{Change, expr_of, new_state, parse, script_of};
 use rhai_lists::{
     Escaped, ListError, Refused, TokenList, answered, decimal, read_lines, read_list,
 };
 use rhai_names::{FnNames, names_of_script};
 use rhai_parser::{
-    AST, Engine, FnLib, LangOptions, OptimizationLevel, ParseResult, ParseState, Token,
-    TokenStream, TokenizerControl,
+    AST, Engine, FnLib, LangOptions, OptimizationLevel, ParseResult, Token, TokenStream,
 };
 use std::alloc::{AllocError, Global};
 use std::process::Abort;
@@ -65,11 +65,10 @@ struct Given {
     count: usize,
 }
 
-// The engine of some words: the depths of scripts and functions; the numbers of functions, items and properties; and
+// Sets an engine by some words: the depths of scripts and functions; the numbers of functions, items and properties; and
 // then the names of all options.
-fn read_engine(alloc: Global, words: &str) -> Option<Engine> {
+fn set_engine(engine: &mut Engine, words: &str) -> Option<()> {
     let mut words = words.split(' ');
-    let mut engine = Engine::new(alloc);
     engine.set_max_expr_depth(decimal(words.next()?)?);
     engine.set_max_function_expr_depth(decimal(words.next()?)?);
     engine.set_max_functions(decimal(words.next()?)?);
@@ -79,7 +78,16 @@ fn read_engine(alloc: Global, words: &str) -> Option<Engine> {
     for name in words {
         engine.set_options(engine.options() | option(name)?);
     }
-    Some(engine)
+    Some(())
+}
+
+// The engine of some words.
+fn read_engine(alloc: Global, words: &str) -> Option<Engine> {
+    let mut engine = Engine::new(alloc);
+    match set_engine(&mut engine, words) {
+        Some(()) => Some(engine),
+        None => None,
+    }
 }
 
 /// A line of words: what the list is, the level, and the words of the engine.
@@ -89,27 +97,43 @@ pub(crate) fn read_words(alloc: Global, line: &str) -> Option<(Kind, Optimizatio
     Some((kind_of(first)?, level(second)?, read_engine(alloc, words)?))
 }
 
-// Reads an input: a line of words, and a list.
-fn read_given(alloc: Global, text: &str) -> Result<Option<Given>, ListError> {
-    let Some((line, list)) = text.split_once('\n') else {
-        return Ok(None);
-    };
-    let TokenList { entries, end } = read_list(alloc, list.as_bytes())?;
-    let Some((kind, level, engine)) = read_words(alloc, line) else {
-        return Ok(None);
-    };
-    if !entries.iter().all(|entry| entry.is_deliverable()) {
-        return Ok(None);
-    }
+// The stream of a list, and how many tokens it has.
+fn stream_of(list: TokenList) -> Option<(TokenStream, usize)> {
+    let TokenList { entries, end } = list;
     let count = entries.len();
-    let input = TokenStream::new(entries, end);
-    Ok(Some(Given {
+    match TokenStream::checked(entries, end) {
+        Ok(input) => Some((input, count)),
+        Err(_) => None,
+    }
+}
+
+fn make_given(
+    words: Option<(Kind, OptimizationLevel, Engine)>,
+    stream: Option<(TokenStream, usize)>,
+) -> Option<Given> {
+    let (input, count) = stream?;
+    let (kind, level, engine) = words?;
+    Some(Given {
         kind,
         level,
         engine,
         input,
         count,
-    }))
+    })
+}
+
+// Reads an input: a line of words, and a list.
+fn read_given(alloc: Global, text: &str) -> Result<Option<Given>, ListError> {
+    let Some((line, list)) = text.split_once('\n') else {
+        return Ok(None);
+    };
+    let list = read_list(alloc, list.as_bytes())?;
+    Ok(make_given(read_words(alloc, line), stream_of(list)))
+}
+
+fn given_by(alloc: Global, bytes: &[u8]) -> Result<Given, Fail> {
+    let given = read_given(alloc, str::from_utf8(bytes)?)?;
+    Ok(given.ok_or("not a line of words and a list")?)
 }
 
 // What standard input says; nothing if it is empty.
@@ -118,8 +142,7 @@ fn read_input(rt: &HostRuntime) -> Result<Option<Given>, Fail> {
     if bytes.is_empty() {
         return Ok(None);
     }
-    let given = read_given(rt.alloc(), str::from_utf8(&bytes)?)?;
-    Ok(Some(given.ok_or("not a line of words and a list")?))
+    Ok(Some(given_by(rt.alloc(), &bytes)?))
 }
 
 // How many tokens were taken of the stream.
@@ -145,44 +168,42 @@ fn print_library(rt: &HostRuntime, lib: &FnLib) -> io::Result<()> {
     Ok(())
 }
 
-// Prints the first line of an answer, how many tokens were taken, and the library, which has all functions of a script.
-fn print_state(
-    rt: &HostRuntime,
-    answer: &ParseResult<AST>,
-    given: &mut Given,
-    lib: &FnLib,
-) -> Result<(), Fail> {
+// Prints the first line of an answer. The library has so many functions: those of a script that is accepted.
+fn print_first(rt: &HostRuntime, answer: &ParseResult<AST>, functions: usize) -> Result<(), Fail> {
     match answer {
-        Ok(script) if script.functions.len() != lib.len() => Err("the answer lacks functions")?,
+        Ok(script) if script.functions.len() != functions => Err("the answer lacks functions")?,
         Ok(_) => println!(rt; "accepted")?,
         Err(error) => println!(rt; "refused {}", Refused(error))?,
     }
-    println!(rt; "taken {}", tokens_taken(given))?;
-    print_library(rt, lib)?;
     Ok(())
-}
-
-// The tree of a script.
-fn read_script(alloc: Global, given: &mut Given, lib: &mut FnLib) -> ParseResult<AST> {
-    let mut state = ParseState::new(alloc, None, &mut given.input, TokenizerControl, lib);
-    let read = given.engine.parse_global_level(&mut state, |_settings| {});
-    read.map(|(statements, functions)| AST {
-        statements,
-        functions,
-    })
 }
 
 // The tree of a script or an expression.
 fn read(alloc: Global, given: &mut Given, lib: &mut FnLib) -> ParseResult<AST> {
-    match given.kind {
-        Kind::Script => read_script(alloc, given, lib),
-        Kind::Expression => {
-            let state = ParseState::new(alloc, None, &mut given.input, TokenizerControl, lib);
-            given
-                .engine
-                .parse_global_expr(state, |_settings| {}, given.level)
-        }
+    if matches!(given.kind, Kind::Script) {
+        return script_of(alloc, &given.engine, &mut given.input, lib);
     }
+    let (engine, level) = (&given.engine, given.level);
+    expr_of(
+        alloc,
+        engine,
+        None,
+        Change::Nothing,
+        level,
+        &mut given.input,
+        lib,
+    )
+}
+
+// Prints the first line of an answer, how many tokens were taken, and the library.
+fn print_state(rt: &HostRuntime, given: &mut Given, lib: &mut FnLib) -> Result<(), Fail> {
+    let answer = read(rt.alloc(), given, lib);
+    let first = print_first(rt, &answer, lib.len());
+    drop(answer);
+    first?;
+    println!(rt; "taken {}", tokens_taken(given))?;
+    print_library(rt, lib)?;
+    Ok(())
 }
 
 #[test]
@@ -190,16 +211,20 @@ fn the_library_after_a_list(rt: HostRuntime) -> Result<(), Fail> {
     let Some(mut given) = read_input(&rt)? else {
         return Ok(());
     };
-    let mut lib = FnLib::new(rt.alloc());
-    let answer = read(rt.alloc(), &mut given, &mut lib);
-    print_state(&rt, &answer, &mut given, &lib)
+    print_state(&rt, &mut given, &mut FnLib::new(rt.alloc()))
 }
 
 // What `parse` answers.
-fn parse(alloc: Global, given: &mut Given) -> ParseResult<AST> {
+fn parse_given(alloc: Global, given: &mut Given) -> ParseResult<AST> {
     let mut lib = FnLib::new(alloc);
-    let state = ParseState::new(alloc, None, &mut given.input, TokenizerControl, &mut lib);
-    given.engine.parse(state, given.level)
+    let (engine, level) = (&given.engine, given.level);
+    parse(alloc, engine, level, &mut given.input, &mut lib)
+}
+
+fn print_answer(rt: &HostRuntime, given: &mut Given) -> Result<(), Fail> {
+    let answer = answered(rt.alloc(), parse_given(rt.alloc(), given))?;
+    println!(rt; "{answer}")?;
+    Ok(())
 }
 
 #[test]
@@ -207,9 +232,7 @@ fn a_script_at_a_level(rt: HostRuntime) -> Result<(), Fail> {
     let Some(mut given) = read_input(&rt)? else {
         return Ok(());
     };
-    let answer = parse(rt.alloc(), &mut given);
-    println!(rt; "{}", answered(rt.alloc(), answer)?)?;
-    Ok(())
+    print_answer(&rt, &mut given)
 }
 
 // Prints the names of a function: a line for itself, and one for each variable and each call.
@@ -231,8 +254,15 @@ fn print_names(rt: &HostRuntime, names: &FnNames) -> io::Result<()> {
 // What `names_of_script` answers.
 fn names(alloc: Global, given: &mut Given) -> ParseResult<Vec<FnNames>> {
     let mut lib = FnLib::new(alloc);
-    let mut state = ParseState::new(alloc, None, &mut given.input, TokenizerControl, &mut lib);
+    let mut state = new_state(alloc, None, &mut given.input, &mut lib);
     names_of_script(alloc, &given.engine, &mut state)
+}
+
+fn print_all_names(rt: &HostRuntime, given: &mut Given) -> Result<(), Fail> {
+    for one in &names(rt.alloc(), given)? {
+        print_names(rt, one)?;
+    }
+    Ok(())
 }
 
 #[test]
@@ -240,34 +270,34 @@ fn the_names_of_a_script(rt: HostRuntime) -> Result<(), Fail> {
     let Some(mut given) = read_input(&rt)? else {
         return Ok(());
     };
-    for one in &names(rt.alloc(), &mut given)? {
-        print_names(&rt, one)?;
-    }
-    Ok(())
+    print_all_names(&rt, &mut given)
 }
 
-// Compares what the program prints of an answer. A lack of memory is the tokenizer's.
-fn check_printed(
+// What the program prints of an answer. A lack of memory is the tokenizer's.
+fn printed(alloc: Global, answer: ParseResult<AST>) -> Result<String, AllocError> {
+    match answered(alloc, answer) {
+        Ok(text) => Ok(text),
+        Err(AllocError) => Ok(String::from_str(alloc, "refused E36 none OutOfMemory")?),
+    }
+}
+
+// Wants the answer of a record to its input.
+fn check_given(
     rt: &impl Abort,
     alloc: Global,
-    answer: ParseResult<AST>,
+    given: &mut Given,
     wanted: &str,
 ) -> Result<(), AllocError> {
-    let text = match answered(alloc, answer) {
-        Ok(text) => text,
-        Err(AllocError) => String::from_str(alloc, "refused E36 none OutOfMemory")?,
-    };
+    let mut lib = FnLib::new(alloc);
+    let text = printed(alloc, read(alloc, given, &mut lib))?;
     assert!(rt; text.as_str() == wanted, "{text} in place of {wanted}");
     Ok(())
 }
 
-// Wants the answer of a record to its input.
 fn check_record(rt: &impl Abort, alloc: Global, record: &str) -> Result<(), Fail> {
     let (input, wanted) = record.split_once("\n###\n").ok_or("no answer")?;
-    let mut given = read_given(alloc, input)?.ok_or("not a line of words and a list")?;
-    let mut lib = FnLib::new(alloc);
-    let answer = read(alloc, &mut given, &mut lib);
-    check_printed(rt, alloc, answer, wanted)?;
+    let mut given = given_by(alloc, input.as_bytes())?;
+    check_given(rt, alloc, &mut given, wanted)?;
     Ok(())
 }
 

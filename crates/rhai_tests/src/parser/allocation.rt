@@ -3,8 +3,9 @@
 //! memory. The other, `.._refused`, lets it end early, and holds however memory is refused (tests/hostile/calls.py):
 //! what was asserted on the way has to hold all the same.
 
+use crate::answers::check;
 use crate::script::{add_line, parse};
-use rhai_parser::{Engine, ParseError};
+use rhai_parser::Engine;
 use std::alloc::{AllocError, Global};
 use std::process::Abort;
 use std::test::Fail;
@@ -13,15 +14,23 @@ use std::test::Fail;
 const MODULES: [&str; 10] = ["a", "b", "c", "d", "e", "f", "g", "h", "i", "j"];
 
 // Where memory is refused, the module is not added, and the engine keeps those that it has.
-fn module(rt: &impl Abort, alloc: Global) -> Result<(), AllocError> {
-    let mut engine = Engine::new(alloc);
+fn add_module(rt: &impl Abort, engine: &mut Engine, name: &str) -> Result<(), AllocError> {
+    let added = engine.add_sub_module(name);
+    assert!(rt; engine.has_sub_module("k") && engine.has_sub_module(name) == added.is_ok());
+    added
+}
+
+fn add_modules(rt: &impl Abort, engine: &mut Engine) -> Result<(), AllocError> {
     engine.add_sub_module("k")?;
     for name in &MODULES {
-        let added = engine.add_sub_module(name);
-        assert!(rt; engine.has_sub_module("k") && engine.has_sub_module(name) == added.is_ok());
-        added?;
+        add_module(rt, engine, name)?;
     }
     Ok(())
+}
+
+fn module(rt: &impl Abort, alloc: Global) -> Result<(), AllocError> {
+    let mut engine = Engine::new(alloc);
+    add_modules(rt, &mut engine)
 }
 
 #[test]
@@ -39,13 +48,8 @@ fn tree(rt: &impl Abort, alloc: Global) -> Result<(), AllocError> {
     let line = "! f ( [ 1 , a ] , #{ b : 2 } ) . c [ 0 ] && d . g ()";
     let mut entries = Vec::new(alloc);
     add_line(alloc, &mut entries, line)?;
-    match parse(rt, alloc, entries) {
-        Ok(_) => Ok(()),
-        Err(error) => {
-            assert!(rt; error == ParseError::from(AllocError), "{error:?}");
-            Err(AllocError)
-        }
-    }
+    let answer = parse(rt, alloc, entries)?;
+    check(rt, &answer, "accepted")
 }
 
 #[test]

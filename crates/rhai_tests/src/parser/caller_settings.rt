@@ -1,7 +1,8 @@
 //! Settings that only the caller's closure can change. No list of tokens shows what they do. Two tests make all rows,
 //! as in `allocation`: the one that is `.._refused` holds however memory is refused.
 
-use crate::script::{Change, test_expr, test_script};
+use crate::calls::Change;
+use crate::script::{test_expr, test_script};
 use rhai_parser::{Engine, LangOptions, ParseSettingFlags};
 use std::alloc::{AllocError, Global};
 use std::process::Abort;

@@ -1,13 +1,14 @@
 //! The call that reads a script for the names that its functions need.
 
-use super::libraries::{Functions, holds_ended};
-use crate::script::{stream_of_line, tokens_taken};
+use super::libraries::{Functions, check_ended};
+use crate::answers::{NO_MEMORY, error_text};
+use crate::calls::new_state;
+use crate::script::stream_of_line;
 use rhai_names::{FnNames, names_of_script};
-use rhai_parser::{
-    Engine, FnLib, ParseError, ParseErrorType, ParseResult, ParseState, TokenizerControl,
-};
+use rhai_parser::{Engine, FnLib, ParseResult, TokenStream};
 use std::alloc::{AllocError, Global};
 use std::process::Abort;
+use std::rc::RcStr;
 use std::test::Fail;
 
 // Its closure captures `a` and `c`, and ends first.
@@ -15,24 +16,35 @@ const SCRIPT: &str = "fn f ( a ) { | b | a + b . m ( c ) } fn g () { f ( 1 ) }";
 
 const FUNCTIONS: Functions = &[("anon$0000000000000000", 3, 17), ("f", 1, 18), ("g", 0, 27)];
 
+// The call, without its clauses.
+fn names_in(alloc: Global, input: &mut TokenStream, lib: &mut FnLib) -> ParseResult<Vec<FnNames>> {
+    let mut state = new_state(alloc, None, input, lib);
+    names_of_script(alloc, &Engine::new(alloc), &mut state)
+}
+
+// The names of a script, or what is printed of its refusal.
+type NamesOrRefusal = Result<Vec<FnNames>, String>;
+
+fn told(alloc: Global, answer: ParseResult<Vec<FnNames>>) -> Result<NamesOrRefusal, AllocError> {
+    match answer {
+        Ok(list) => Ok(Ok(list)),
+        Err(error) => Ok(Err(error_text(alloc, error)?)),
+    }
+}
+
 // Reads a script for its names. The library has to hold exactly those of its functions that have ended.
 fn read(
     rt: &impl Abort,
     alloc: Global,
     line: &str,
     functions: Functions,
-) -> Result<ParseResult<Vec<FnNames>>, AllocError> {
+) -> Result<NamesOrRefusal, AllocError> {
     let mut input = stream_of_line(rt, alloc, line)?;
     let mut lib = FnLib::new(alloc);
-    let mut state = ParseState::new(alloc, None, &mut input, TokenizerControl, &mut lib);
-    let answer = names_of_script(alloc, &Engine::new(alloc), &mut state);
-    let taken = tokens_taken(state.input, line);
-    assert!(rt; holds_ended(state.lib, functions, taken), "{line}");
-    assert!(rt;
-        answer.is_err() || state.lib.len() == functions.len(),
-        "{line}"
-    );
-    Ok(answer)
+    let answer = names_in(alloc, &mut input, &mut lib);
+    check_ended(rt, &lib, &mut input, (line, functions));
+    assert!(rt; answer.is_err() || lib.len() == functions.len(), "{line}");
+    told(alloc, answer)
 }
 
 // What a function needs: its name, the number of its parameters, its free names, and its calls.
@@ -49,36 +61,61 @@ const NEEDS: &[Needs] = &[
     ("g", 0, &[], &[("f", 1)]),
 ];
 
+fn same_names(found: &[RcStr], wanted: &[&str]) -> bool {
+    for (name, wanted) in found.iter().zip(wanted.iter()) {
+        if name.as_str() != *wanted {
+            return false;
+        }
+    }
+    found.len() == wanted.len()
+}
+
+fn same_calls(found: &[(RcStr, usize)], wanted: &[(&str, usize)]) -> bool {
+    for (call, (name, count)) in found.iter().zip(wanted.iter()) {
+        if call.0.as_str() != *name || call.1 != *count {
+            return false;
+        }
+    }
+    found.len() == wanted.len()
+}
+
 // Whether a function is no method, and needs just this.
 fn needs(names: &FnNames, (name, params, free, calls): Needs) -> bool {
-    let mut same_free = names.free.iter().zip(free.iter());
-    let mut same_calls = names.calls.iter().zip(calls.iter());
     names.this_type.is_none()
-        && (names.name.as_str(), names.params) == (name, params)
-        && (names.free.len(), names.calls.len()) == (free.len(), calls.len())
-        && same_free.all(|(one, wanted)| one.as_str() == *wanted)
-        && same_calls.all(|(one, wanted)| (one.0.as_str(), one.1) == *wanted)
+        && names.name.as_str() == name
+        && names.params == params
+        && same_names(&names.free, free)
+        && same_calls(&names.calls, calls)
 }
 
 // Wants these functions, each with just what it needs.
 fn check(rt: &impl Abort, list: &[FnNames], wanted: &[Needs], line: &str) {
-    assert!(rt; list.len() == wanted.len(), "{line}: {list:?}");
+    assert!(rt; list.len() == wanted.len(), "{line}");
     for (names, wanted) in list.iter().zip(wanted.iter()) {
-        assert!(rt; needs(names, *wanted), "{line}: {names:?}");
+        assert!(rt; needs(names, *wanted), "{line}: {}", names.name);
+    }
+}
+
+// Wants these names of a script.
+fn test_names(
+    rt: &impl Abort,
+    alloc: Global,
+    (line, functions, wanted): (&str, Functions, &[Needs]),
+) -> Result<(), AllocError> {
+    match read(rt, alloc, line, functions)? {
+        Ok(list) => {
+            check(rt, &list, wanted, line);
+            Ok(())
+        }
+        Err(refusal) => {
+            assert!(rt; refusal.as_str() == NO_MEMORY, "{refusal}");
+            Err(AllocError)
+        }
     }
 }
 
 fn names(rt: &impl Abort, alloc: Global) -> Result<(), AllocError> {
-    match read(rt, alloc, SCRIPT, FUNCTIONS)? {
-        Ok(list) => {
-            check(rt, &list, NEEDS, SCRIPT);
-            Ok(())
-        }
-        Err(error) => {
-            assert!(rt; error == ParseError::from(AllocError));
-            Err(AllocError)
-        }
-    }
+    test_names(rt, alloc, (SCRIPT, FUNCTIONS, NEEDS))
 }
 
 #[test]
@@ -126,24 +163,27 @@ const ROWS: [(&str, Functions, &[Needs]); 6] = [
 
 #[test]
 fn names_of_functions(rt: HostRuntime) -> Result<(), Fail> {
-    for (line, functions, wanted) in ROWS {
-        let list = read(&rt, rt.alloc(), line, functions)??;
-        check(&rt, &list, wanted, line);
+    for row in ROWS {
+        test_names(&rt, rt.alloc(), row)?;
     }
     Ok(())
 }
 
 #[test]
 fn names_of_no_function(rt: HostRuntime) -> Result<(), Fail> {
-    let answer = read(&rt, rt.alloc(), "let x = 1 ;", &[])?;
-    assert!(rt; answer.is_ok_and(|list| list.is_empty()));
-    Ok(())
+    Ok(test_names(&rt, rt.alloc(), ("let x = 1 ;", &[], &[]))?)
 }
 
 // The function before the error stays.
+fn no_script(rt: &impl Abort, alloc: Global) -> Result<(), AllocError> {
+    match read(rt, alloc, "fn f () { } fn", &[("f", 0, 5)])? {
+        Ok(_) => assert!(rt; false),
+        Err(refusal) => assert!(rt; refusal.as_str() == "E24 none FnMissingName", "{refusal}"),
+    }
+    Ok(())
+}
+
 #[test]
 fn names_of_no_script(rt: HostRuntime) -> Result<(), Fail> {
-    let answer = read(&rt, rt.alloc(), "fn f () { } fn", &[("f", 0, 5)])?;
-    assert!(rt; answer.is_err_and(|error| error.0 == ParseErrorType::FnMissingName));
-    Ok(())
+    Ok(no_script(&rt, rt.alloc())?)
 }

@@ -1,10 +1,12 @@
 //! What a library holds where memory ran out. It is what it held before, and then exactly the functions that have ended
 //! since. A function has ended where a token after its own was taken, and has not where one of its own was not.
 
+use crate::answers::{NO_MEMORY, check, told};
+use crate::calls::{Change, new_state, parse, read_script, script_of};
 use crate::script::{add_line, stream_of, stream_of_line, tokens_taken};
 use rhai_parser::{
-    Engine, Entry, FnLib, LexError, OptimizationLevel, ParseError, ParseResult, ParseState,
-    Position, Token, TokenizerControl,
+    AST, Engine, Entry, FnLib, LexError, OptimizationLevel, ParseResult, ParseState, Position,
+    Token, TokenStream,
 };
 use std::alloc::{AllocError, Global};
 use std::process::Abort;
@@ -39,37 +41,48 @@ pub(crate) fn holds_ended(lib: &FnLib, functions: Functions, taken: usize) -> bo
     }
 }
 
-/// Wants an answer that is no refusal, or the refusal for want of memory.
-pub(crate) fn unless_memory<T: Drop>(
+/// Wants a library to hold exactly the functions of a line that have ended, by what was taken of its stream.
+pub(crate) fn check_ended(
     rt: &impl Abort,
-    answer: ParseResult<T>,
-) -> Result<T, AllocError> {
-    match answer {
-        Ok(tree) => Ok(tree),
-        Err(error) => {
-            assert!(rt; error == ParseError::from(AllocError), "{error:?}");
-            Err(AllocError)
-        }
-    }
+    lib: &FnLib,
+    input: &mut TokenStream,
+    (line, functions): (&str, Functions),
+) {
+    let taken = tokens_taken(input, line);
+    assert!(rt; holds_ended(lib, functions, taken), "{line}");
 }
 
-// Reads `FOUR` where the tokenizer has no memory for this token. The result is how many functions the library holds.
-fn functions_before(rt: &impl Abort, alloc: Global, place: usize) -> Result<usize, AllocError> {
-    let mut entries = Vec::new(alloc);
-    add_line(alloc, &mut entries, FOUR)?;
+// Adds the tokens of `FOUR` before this one, and then the tokenizer has no memory.
+fn add_four(alloc: Global, entries: &mut Vec<Entry>, place: usize) -> Result<(), AllocError> {
+    add_line(alloc, entries, FOUR)?;
     entries.truncate(place);
     entries.push(Entry {
         token: Token::LexError(LexError::OutOfMemory),
         pos: Position::START,
         text: false,
     })?;
-    let mut input = stream_of(rt, entries);
+    Ok(())
+}
+
+fn four_without_memory(
+    rt: &impl Abort,
+    alloc: Global,
+    place: usize,
+) -> Result<TokenStream, AllocError> {
+    let mut entries = Vec::new(alloc);
+    add_four(alloc, &mut entries, place)?;
+    Ok(stream_of(rt, entries))
+}
+
+// Reads `FOUR` where the tokenizer has no memory for this token. The result is how many functions the library holds.
+fn functions_before(rt: &impl Abort, alloc: Global, place: usize) -> Result<usize, AllocError> {
+    let mut input = four_without_memory(rt, alloc, place)?;
     let mut lib = FnLib::new(alloc);
-    let mut state = ParseState::new(alloc, None, &mut input, TokenizerControl, &mut lib);
-    let answer = Engine::new(alloc).parse_global_level(&mut state, |_settings| {});
-    assert!(rt; unless_memory(rt, answer).is_err(), "{place}");
-    assert!(rt; holds_ended(state.lib, FUNCTIONS_OF_FOUR, place), "{place}");
-    Ok(state.lib.len())
+    let answer = script_of(alloc, &Engine::new(alloc), &mut input, &mut lib);
+    let answer = told(alloc, answer)?;
+    assert!(rt; answer.as_str() == NO_MEMORY, "{place}");
+    assert!(rt; holds_ended(&lib, FUNCTIONS_OF_FOUR, place), "{place}");
+    Ok(lib.len())
 }
 
 // Those functions have ended whose `}` stands before.
@@ -121,39 +134,67 @@ const SCRIPTS: [(&str, Functions); 3] = [
     ),
 ];
 
-// Reads a script with a library that holds `first`.
-fn read_after_first(
+// Reads a script, and then another one with the library that the first left.
+fn read_both(
     rt: &impl Abort,
     alloc: Global,
+    state: &mut ParseState<'_, '_, '_>,
     (line, functions): (&str, Functions),
 ) -> Result<(), AllocError> {
     let engine = Engine::new(alloc);
-    let mut input = stream_of_line(rt, alloc, "fn first () { }")?;
-    let mut lib = FnLib::new(alloc);
-    let mut state = ParseState::new(alloc, None, &mut input, TokenizerControl, &mut lib);
-    unless_memory(rt, engine.parse_global_level(&mut state, |_settings| {}))?;
+    read_first(rt, alloc, &engine, state)?;
     *state.input = stream_of_line(rt, alloc, line)?;
-    let answer = engine.parse_global_level(&mut state, |_settings| {});
-    let taken = tokens_taken(state.input, line);
-    assert!(rt; holds_ended(state.lib, functions, taken), "{line}");
-    let held = state.lib.len();
-    unless_memory(rt, answer)?;
+    let answer = read_script(&engine, state, Change::Nothing);
+    check_ended(rt, state.lib, state.input, (line, functions));
+    check_all(rt, alloc, answer, state.lib.len(), (line, functions))
+}
+
+// Reads a script that has to be accepted.
+fn read_first(
+    rt: &impl Abort,
+    alloc: Global,
+    engine: &Engine,
+    state: &mut ParseState<'_, '_, '_>,
+) -> Result<(), AllocError> {
+    let answer = told(alloc, read_script(engine, state, Change::Nothing))?;
+    check(rt, &answer, "accepted")
+}
+
+// Wants a library of so many functions to have all of a line, if that was read to its end.
+fn check_all(
+    rt: &impl Abort,
+    alloc: Global,
+    answer: ParseResult<AST>,
+    held: usize,
+    (line, functions): (&str, Functions),
+) -> Result<(), AllocError> {
+    let answer = told(alloc, answer)?;
+    check(rt, &answer, "accepted")?;
     assert!(rt; held == functions.len(), "{line}");
     Ok(())
 }
 
+// Reads a script with a library that holds `first`.
+fn read_after_first(
+    rt: &impl Abort,
+    alloc: Global,
+    row: (&str, Functions),
+) -> Result<(), AllocError> {
+    let mut input = stream_of_line(rt, alloc, "fn first () { }")?;
+    let mut lib = FnLib::new(alloc);
+    let mut state = new_state(alloc, None, &mut input, &mut lib);
+    read_both(rt, alloc, &mut state, row)
+}
+
 // Reads a script for the optimizer.
 fn read_to_optimize(rt: &impl Abort, alloc: Global) -> Result<(), AllocError> {
-    let engine = Engine::new(alloc);
     let mut input = stream_of_line(rt, alloc, FOUR)?;
     let mut lib = FnLib::new(alloc);
-    let state = ParseState::new(alloc, None, &mut input, TokenizerControl, &mut lib);
-    let answer = engine.parse(state, OptimizationLevel::Full);
-    let taken = tokens_taken(&mut input, FOUR);
-    assert!(rt; holds_ended(&lib, FUNCTIONS_OF_FOUR, taken));
-    unless_memory(rt, answer)?;
-    assert!(rt; lib.len() == 4);
-    Ok(())
+    let (engine, level) = (Engine::new(alloc), OptimizationLevel::Full);
+    let answer = parse(alloc, &engine, level, &mut input, &mut lib);
+    let row = (FOUR, FUNCTIONS_OF_FOUR);
+    check_ended(rt, &lib, &mut input, row);
+    check_all(rt, alloc, answer, lib.len(), row)
 }
 
 fn libraries(rt: &impl Abort, alloc: Global) -> Result<(), AllocError> {

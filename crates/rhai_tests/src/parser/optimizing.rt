@@ -1,25 +1,39 @@
 //! The entry point that passes a script to the optimizer, at each level. Two tests make all rows, as in `allocation`:
 //! the one that is `.._refused` holds however memory is refused.
 
-use super::libraries::{Functions, holds_ended};
-use crate::script::{stream_of_line, tokens_taken};
+use super::libraries::{Functions, check_ended};
+use crate::calls::{parse, script_of};
+use crate::script::stream_of_line;
 use rhai_lists::answered;
-use rhai_parser::{AST, Engine, FnLib, OptimizationLevel, ParseState, TokenizerControl};
+use rhai_parser::{Engine, FnLib, OptimizationLevel};
 use std::alloc::{AllocError, Global};
 use std::process::Abort;
 use std::test::Fail;
 
-// The tree of a line, not optimized.
+// What is printed of a line, not optimized.
 fn read_plainly(rt: &impl Abort, alloc: Global, line: &str) -> Result<String, AllocError> {
     let mut input = stream_of_line(rt, alloc, line)?;
     let mut lib = FnLib::new(alloc);
-    let mut state = ParseState::new(alloc, None, &mut input, TokenizerControl, &mut lib);
-    let read = Engine::new(alloc).parse_global_level(&mut state, |_settings| {});
-    let script = read.map(|(statements, functions)| AST {
-        statements,
-        functions,
-    });
-    answered(alloc, script)
+    answered(
+        alloc,
+        script_of(alloc, &Engine::new(alloc), &mut input, &mut lib),
+    )
+}
+
+// What is printed of a line at this level. The library that is lent has exactly the functions that have ended.
+fn read_at(
+    rt: &impl Abort,
+    alloc: Global,
+    level: OptimizationLevel,
+    (line, functions): (&str, Functions),
+) -> Result<String, AllocError> {
+    let mut input = stream_of_line(rt, alloc, line)?;
+    let mut lib = FnLib::new(alloc);
+    let answer = parse(alloc, &Engine::new(alloc), level, &mut input, &mut lib);
+    check_ended(rt, &lib, &mut input, (line, functions));
+    let answer = answered(alloc, answer)?;
+    assert!(rt; lib.len() == functions.len(), "{line}");
+    Ok(answer)
 }
 
 // Wants the answer to a line at this level to be that without the optimizer, which begins with `wanted`, and in the
@@ -30,14 +44,7 @@ fn test_parse(
     level: OptimizationLevel,
     (line, wanted, functions): (&str, &str, Functions),
 ) -> Result<(), AllocError> {
-    let mut input = stream_of_line(rt, alloc, line)?;
-    let mut lib = FnLib::new(alloc);
-    let state = ParseState::new(alloc, None, &mut input, TokenizerControl, &mut lib);
-    let answer = Engine::new(alloc).parse(state, level);
-    let taken = tokens_taken(&mut input, line);
-    assert!(rt; holds_ended(&lib, functions, taken), "{line}");
-    let answer = answered(alloc, answer)?;
-    assert!(rt; lib.len() == functions.len(), "{line}");
+    let answer = read_at(rt, alloc, level, (line, functions))?;
     assert!(rt; answer.as_str().starts_with(wanted), "{answer}");
     let plain = read_plainly(rt, alloc, line)?;
     assert!(rt; answer == plain, "{answer}");

@@ -2,10 +2,11 @@
 
 ghost use Rattle.std.specs.Prelude.{◌≡◌};
 
+use crate::calls::new_state;
 use crate::script::stream_of_line;
 use rhai_parser::{
-    AST, Engine, FnLib, OptimizationLevel, Optimizer, ParseState, Scope, ScriptFuncDef,
-    StmtBlockContainer, TokenizerControl,
+    AST, Engine, FnLib, OptimizationLevel, Optimizer, ParseResult, Scope, ScriptFuncDef,
+    StmtBlockContainer, TokenStream,
 };
 use std::alloc::{AllocError, Global};
 use std::process::Abort;
@@ -38,6 +39,42 @@ impl Optimizer for Telling {
     }
 }
 
+fn optimize_script(
+    alloc: Global,
+    constants: Option<&Scope>,
+    level: OptimizationLevel,
+    input: &mut TokenStream,
+    lib: &mut FnLib,
+) -> ParseResult<AST> {
+    let state = new_state(alloc, constants, input, lib);
+    Engine::new(alloc).parse_with(state, level, &Telling)
+}
+
+fn optimize_expr(
+    alloc: Global,
+    constants: Option<&Scope>,
+    level: OptimizationLevel,
+    input: &mut TokenStream,
+    lib: &mut FnLib,
+) -> ParseResult<AST> {
+    let state = new_state(alloc, constants, input, lib);
+    Engine::new(alloc).parse_global_expr_with(state, |_settings| {}, level, &Telling)
+}
+
+fn statement_count(answer: ParseResult<AST>) -> Option<usize> {
+    match answer {
+        Ok(script) => {
+            let count = script.statements.len();
+            drop(script);
+            Some(count)
+        }
+        Err(error) => {
+            drop(error);
+            None
+        }
+    }
+}
+
 // How many statements the optimizer leaves of a line, read as a script or as one expression; none if it refuses.
 fn statements_left(
     rt: &impl Abort,
@@ -48,37 +85,37 @@ fn statements_left(
 ) -> Result<Option<usize>, AllocError> {
     let mut input = stream_of_line(rt, alloc, line)?;
     let mut lib = FnLib::new(alloc);
-    let state = ParseState::new(alloc, constants, &mut input, TokenizerControl, &mut lib);
-    let engine = Engine::new(alloc);
-    let answer = if is_script {
-        engine.parse_with(state, level, &Telling)
+    Ok(statement_count(if is_script {
+        optimize_script(alloc, constants, level, &mut input, &mut lib)
     } else {
-        engine.parse_global_expr_with(state, |_settings| {}, level, &Telling)
-    };
-    match answer {
-        Ok(script) => Ok(Some(script.statements.len())),
-        Err(_) => Ok(None),
-    }
+        optimize_expr(alloc, constants, level, &mut input, &mut lib)
+    }))
 }
 
 // The optimizer gets the constants and the level of the call, and the call has its answer.
+fn optimize(
+    rt: &impl Abort,
+    alloc: Global,
+    constants: &Scope,
+    (line, is_script, count): (&str, bool, usize),
+) -> Result<(), AllocError> {
+    for (given, level, wanted) in [
+        (Some(constants), OptimizationLevel::Simple, Some(count)),
+        (None, OptimizationLevel::Simple, Some(0)),
+        (Some(constants), OptimizationLevel::None, Some(0)),
+        (Some(constants), OptimizationLevel::Full, None),
+    ] {
+        let left = statements_left(rt, alloc, given, level, (line, is_script))?;
+        assert!(rt; left == wanted, "{line}");
+    }
+    Ok(())
+}
+
 #[test]
 fn optimizers_are_plugged_in(rt: HostRuntime) -> Result<(), Fail> {
-    let alloc = rt.alloc();
-    let constants = Scope::new(alloc);
-    for (line, is_script, count) in [("1 ; 2", true, 2), ("1 + 2", false, 1)] {
-        let read = (line, is_script);
-        let kept = statements_left(
-            &rt,
-            alloc,
-            Some(&constants),
-            OptimizationLevel::Simple,
-            read,
-        )?;
-        let without = statements_left(&rt, alloc, None, OptimizationLevel::Simple, read)?;
-        let other = statements_left(&rt, alloc, Some(&constants), OptimizationLevel::None, read)?;
-        let full = statements_left(&rt, alloc, Some(&constants), OptimizationLevel::Full, read)?;
-        assert!(rt; (kept, without, other, full) == (Some(count), Some(0), Some(0), None));
+    let constants = Scope::new(rt.alloc());
+    for row in [("1 ; 2", true, 2), ("1 + 2", false, 1)] {
+        optimize(&rt, rt.alloc(), &constants, row)?;
     }
     Ok(())
 }

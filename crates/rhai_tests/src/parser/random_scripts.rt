@@ -3,8 +3,9 @@
 
 ghost use Rattle.std.specs.Prelude.{◌<◌};
 
+use crate::calls::{Change, new_state, read_script};
 use crate::script::{add_word, stream_of};
-use rhai_parser::{Engine, Entry, FnLib, ParseState, TokenizerControl, nest_peak};
+use rhai_parser::{Engine, Entry, FnLib, nest_peak};
 use std::alloc::{AllocError, Global};
 use std::process::Abort;
 use std::test::Fail;
@@ -26,45 +27,62 @@ fn next(seed: &mut u64, limit: u64) -> u64
     (*seed >> 33) % limit
 }
 
-// Up to 30 words.
-fn random_words(alloc: Global, seed: &mut u64) -> Result<Vec<Entry>, AllocError> {
-    let mut entries = Vec::new(alloc);
+// Adds up to 30 words.
+fn add_words(alloc: Global, entries: &mut Vec<Entry>, seed: &mut u64) -> Result<(), AllocError> {
     for _ in 0..next(seed, 31) {
         let word = WORDS[next(seed, 32) as usize];
-        add_word(alloc, &mut entries, word, 1)?;
+        add_word(alloc, entries, word, 1)?;
     }
-    Ok(entries)
+    Ok(())
 }
 
-// Reads a random script, under these limits. The result is how many grammar functions were active at once.
+// Reads these words as a script, under these limits. The result is how many grammar functions were active at once.
+fn peak_of(rt: &impl Abort, alloc: Global, engine: &Engine, entries: Vec<Entry>) -> usize {
+    let mut input = stream_of(rt, entries);
+    let mut lib = FnLib::new(alloc);
+    let mut state = new_state(alloc, None, &mut input, &mut lib);
+    drop(read_script(engine, &mut state, Change::Nothing));
+    nest_peak(&state)
+}
+
+// Reads a random script.
 fn peak_of_next(
     rt: &impl Abort,
     alloc: Global,
     engine: &Engine,
     seed: &mut u64,
 ) -> Result<usize, AllocError> {
-    let mut input = stream_of(rt, random_words(alloc, seed)?);
-    let mut lib = FnLib::new(alloc);
-    let mut state = ParseState::new(alloc, None, &mut input, TokenizerControl, &mut lib);
-    let _answer = engine.parse_global_level(&mut state, |_settings| {});
-    Ok(nest_peak(&state))
+    let mut entries = Vec::new(alloc);
+    add_words(alloc, &mut entries, seed)?;
+    Ok(peak_of(rt, alloc, engine, entries))
 }
 
-// At most eight for each level that a script and a function may have, and for two more: 8 * (6 + 4 + 2).
+// At most eight for each level that a script and a function may have, and for two more: 8 * (6 + 4 + 2). The result is
+// the highest peak of so many scripts.
+fn highest_peak(
+    rt: &impl Abort,
+    alloc: Global,
+    engine: &Engine,
+    count: usize,
+) -> Result<usize, AllocError> {
+    let mut seed = 1;
+    let mut highest = 0;
+    for _ in 0..count {
+        let peak = peak_of_next(rt, alloc, engine, &mut seed)?;
+        assert!(rt; 1 <= peak && peak <= 96, "{peak}");
+        highest = highest.max(peak);
+    }
+    Ok(highest)
+}
+
+// In some, more are active than one for each of these levels.
 #[test]
 fn peaks_of_100_000_scripts(rt: HostRuntime) -> Result<(), Fail> {
     let alloc = rt.alloc();
     let mut engine = Engine::new(alloc);
     engine.set_max_expr_depth(6);
     engine.set_max_function_expr_depth(4);
-    let mut seed = 1;
-    let mut highest = 0;
-    for _ in 0..100_000 {
-        let peak = peak_of_next(&rt, alloc, &engine, &mut seed)?;
-        assert!(rt; 1 <= peak && peak <= 96, "{peak}");
-        highest = highest.max(peak);
-    }
-    // In some, more are active than one for each of these levels.
+    let highest = highest_peak(&rt, alloc, &engine, 100_000)?;
     assert!(rt; highest > 12, "{highest}");
     Ok(())
 }

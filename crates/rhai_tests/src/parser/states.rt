@@ -1,8 +1,9 @@
 //! States that a caller or an earlier script changed. The parser is given them so. Two tests make all rows, as in
 //! `allocation`: the one that is `.._refused` holds however memory is refused.
 
-use crate::script::{Change, stream_of, test_expr, test_expr_in, test_script_in};
-use rhai_parser::{Engine, FnLib, LangOptions, ParseCounts, ParseState, Scope, TokenizerControl};
+use crate::calls::{Change, new_state};
+use crate::script::{stream_of, test_expr, test_expr_in, test_script_in};
+use rhai_parser::{Engine, FnLib, LangOptions, ParseCounts, ParseState, Scope};
 use std::alloc::{AllocError, Global};
 use std::process::Abort;
 use std::rc::RcStr;
@@ -15,25 +16,34 @@ fn strict_engine(alloc: Global) -> Engine {
 }
 
 // Where the caller gives a constant `x`, it is known.
-fn external_constants(rt: &impl Abort, alloc: Global) -> Result<(), AllocError> {
+fn known_constants(
+    rt: &impl Abort,
+    alloc: Global,
+    constants: Option<&Scope>,
+) -> Result<(), AllocError> {
     let engine = strict_engine(alloc);
     let nothing = Change::Nothing;
-    let mut constants = Scope::new(alloc);
-    constants.push(RcStr::from_str(alloc, "x")?, true)?;
-    let (x, y) = (
-        ("x", "E18 1:1 VariableUndefined x"),
-        ("y", "E18 1:1 VariableUndefined y"),
-    );
-    test_expr(rt, alloc, &engine, nothing, x)?;
-    test_expr_in(rt, alloc, &engine, nothing, Some(&constants), y)?;
-    test_expr_in(
+    let y = ("y", "E18 1:1 VariableUndefined y");
+    test_expr(
         rt,
         alloc,
         &engine,
         nothing,
-        Some(&constants),
-        ("x", "accepted"),
-    )
+        ("x", "E18 1:1 VariableUndefined x"),
+    )?;
+    test_expr_in(rt, alloc, &engine, nothing, constants, y)?;
+    test_expr_in(rt, alloc, &engine, nothing, constants, ("x", "accepted"))
+}
+
+fn push_x(alloc: Global, constants: &mut Scope) -> Result<(), AllocError> {
+    let name = RcStr::from_str(alloc, "x")?;
+    constants.push(name, true)
+}
+
+fn external_constants(rt: &impl Abort, alloc: Global) -> Result<(), AllocError> {
+    let mut constants = Scope::new(alloc);
+    push_x(alloc, &mut constants)?;
+    known_constants(rt, alloc, Some(&constants))
 }
 
 // Wants this answer to a closure where one function is allowed and the state has these counts.
@@ -47,16 +57,11 @@ fn test_begun(
     engine.set_max_functions(1);
     let mut input = stream_of(rt, Vec::new(alloc));
     let mut lib = FnLib::new(alloc);
-    let mut state = ParseState::new(alloc, None, &mut input, TokenizerControl, &mut lib);
+    let mut state = new_state(alloc, None, &mut input, &mut lib);
     state.counts = counts;
-    test_script_in(
-        rt,
-        alloc,
-        &engine,
-        Change::Nothing,
-        &mut state,
-        ("|| 1", wanted),
-    )
+    let row = ("|| 1", wanted);
+    test_script_in(rt, alloc, &engine, Change::Nothing, &mut state, row)?;
+    Ok(())
 }
 
 fn functions_that_have_begun(rt: &impl Abort, alloc: Global) -> Result<(), AllocError> {
@@ -69,20 +74,28 @@ fn functions_that_have_begun(rt: &impl Abort, alloc: Global) -> Result<(), Alloc
 }
 
 // The variables, imports and functions of a script are known in the next one.
-fn scripts_in_one_state(rt: &impl Abort, alloc: Global) -> Result<(), AllocError> {
+fn test_scripts(
+    rt: &impl Abort,
+    alloc: Global,
+    state: &mut ParseState<'_, '_, '_>,
+) -> Result<(), AllocError> {
     let engine = strict_engine(alloc);
-    let mut input = stream_of(rt, Vec::new(alloc));
-    let mut lib = FnLib::new(alloc);
-    let mut state = ParseState::new(alloc, None, &mut input, TokenizerControl, &mut lib);
     for row in [
         ("x + m :: y", "E18 1:1 VariableUndefined x"),
         ("let x = 1 ; import \"a\" as m ; fn f () { }", "accepted"),
         ("x + m :: y", "accepted"),
         ("fn f () { }", "E28 1:1 FnDuplicatedDefinition f 0"),
     ] {
-        test_script_in(rt, alloc, &engine, Change::Nothing, &mut state, row)?;
+        test_script_in(rt, alloc, &engine, Change::Nothing, state, row)?;
     }
     Ok(())
+}
+
+fn scripts_in_one_state(rt: &impl Abort, alloc: Global) -> Result<(), AllocError> {
+    let mut input = stream_of(rt, Vec::new(alloc));
+    let mut lib = FnLib::new(alloc);
+    let mut state = new_state(alloc, None, &mut input, &mut lib);
+    test_scripts(rt, alloc, &mut state)
 }
 
 fn states(rt: &impl Abort, alloc: Global) -> Result<(), AllocError> {
