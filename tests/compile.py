@@ -3,10 +3,10 @@
 
 usage: tests/compile.py [TOKENS TESTS]
 
-TOKENS is the program rhai-ast, and TESTS has the tests of the crate rhai_case_tests. Without them both are those that
+TOKENS is the program rhai-ast, and TESTS has the tests of the crate rhai_tests. Without them both are those that
 `rt ci` at the top of the repository built last. A list of the table has a text if `rhai-ast tokens` gives just the list
 for it, with all places (hostile/texts.py); then each run of the list has to give the answer of the table for the text
-too, by `compile`, `compile_expression` and `compile_global_level` (a test of rhai_case_tests, texts.rt). The same is
+too, by `compile`, `compile_expression` and `compile_global_level` (a test of rhai_tests, cases/texts.rt). The same is
 done with examples/*.rhai.
 The last line counts the runs; the exit status is 1 if any failed.
 """
@@ -25,7 +25,7 @@ import entries
 import table
 import texts
 
-TEST = "texts::the_tree_of_a_text"
+TEST = "cases::texts::the_tree_of_a_text"
 FEWEST_TEXTS = 2700  # lists of the table that have a text
 EXAMPLES = ("modules", "shop", "weather")  # those with an answer
 
@@ -49,7 +49,7 @@ def check(tests, runs):
 
 def programs(words, library):
     """The programs that are named, or those that were built."""
-    built = ("rhai_ast/out/rhai_ast", "rhai_case_tests/out/rhai_case_tests_tests")
+    built = ("rhai_ast/out/rhai_ast", "rhai_tests/out/rhai_tests_tests")
     paths = words or [ROOT / "crates" / it for it in built]
     return [batch.Program(library, os.path.realpath(it)) for it in paths]
 

@@ -2,11 +2,11 @@
 """Runs the program without memory, on damaged lists, and where inputs and outputs fail. hostile/README.md says how. It
 prints each run that fails, and counts; the last line counts the runs, and the exit status is 1 if any failed.
 
-usage: tests/hostile.py [--jobs N] [--wrong] [PROGRAM [CASE_TESTS [TESTS ..]]]
+usage: tests/hostile.py [--jobs N] [--wrong] [PROGRAM [TESTS]]
 
-PROGRAM is rhai-parse, CASE_TESTS has the tests of the crate rhai_case_tests, and each of TESTS those of another crate,
-as rhai_tests. Without PROGRAM they are those that `rt ci` at the top of the repository built last, with TESTS of
-rhai_tests and rhai_base_tests, and the program of crates/rhai_names_cli is run too. It keeps N processors busy, or all.
+PROGRAM is rhai-parse, and TESTS has the tests of the crate rhai_tests. Without PROGRAM both are those that `rt ci` at
+the top of the repository built last, and the program of crates/rhai_names_cli is run too. It keeps N processors busy,
+or all.
 With --wrong it tests the tests instead, in seconds: over some lists, wrong programs have to fail (hostile/wrong.py).
 """
 
@@ -174,32 +174,26 @@ def arguments():
     parser.add_argument("--jobs", type=int)
     parser.add_argument("--wrong", action="store_true")
     parser.add_argument("program", nargs="?")
-    parser.add_argument("case_tests", nargs="?")
-    parser.add_argument("tests", nargs="*")
+    parser.add_argument("tests", nargs="?")
     return parser.parse_args()
 
 
 def programs(words, library):
-    """The programs with which the tests are made: rhai-parse, rhai-names and the tests of cases, each or none, and all
-    tests in pairs."""
+    """The programs with which the tests are made: rhai-parse, rhai-names and the tests of the library, each or none."""
     if words.program:
-        named = [words.program, None, words.case_tests]
-        pairs = [batch.Program(library, os.path.realpath(path)) for path in words.tests]
-        return *(batch.Program(library, os.path.realpath(path)) if path else None for path in named), pairs
-    pairs = [built(library, crate, f"{crate}_tests") for crate in ("rhai_tests", "rhai_base_tests")]
-    cases = ("rhai_case_tests", "rhai_case_tests_tests")
-    crates = ("rhai_parse", "rhai_parse"), ("rhai_names_cli", "rhai_names_cli"), cases
-    return *(built(library, *crate) for crate in crates), pairs
+        named = words.program, None, words.tests
+        return [batch.Program(library, os.path.realpath(path)) if path else None for path in named]
+    crates = ("rhai_parse", "rhai_parse"), ("rhai_names_cli", "rhai_names_cli"), ("rhai_tests", "rhai_tests_tests")
+    return [built(library, *crate) for crate in crates]
 
 
 def tasks(words, library):
     """What these words of the command line ask for."""
-    program, names, cases, pairs = programs(words, library)
+    program, names, tests = programs(words, library)
     if words.wrong:
-        return [(wrong_programs, program), *([(wrong_libraries, cases)] if cases else [])]
+        return [(wrong_programs, program), *([(wrong_libraries, tests)] if tests else [])]
     found = tasks_of_program(program) + (tasks_of_names(names) if names else [])
-    found += tasks_of_cases(cases) if cases else []
-    return found + [task for tests in pairs for task in tasks_of_calls(tests)]
+    return found + (tasks_of_cases(tests) + tasks_of_calls(tests) if tests else [])
 
 
 def main():

@@ -6,7 +6,7 @@ It takes some minutes, and prints what fails; the last line counts the tests, an
 usage: tests/quick.py [--jobs N]
 
 `rt try` builds the tests of each crate, and then watches them. N are at work at once, or as many as there are
-processors. The test `the_runs_of_a_file` of rhai_case_tests makes the runs of the table of cases. Lists that cannot be
+processors. The test `the_runs_of_a_file` of rhai_tests makes the runs of the table of cases. Lists that cannot be
 read are given to rhai-parse, and those of rhai-names to that. Bad words of the command line, damaged lists and refused
 memory need the programs that `rt ci` builds.
 """
@@ -28,8 +28,8 @@ sys.path.insert(0, str(ROOT / "tests" / "hostile"))
 import entries
 import table
 
-RUNS_OF_A_FILE = "rhai_case_tests"  # the crate with the test that makes the runs of a file
-TESTS = ("rhai_parse", "rhai_lists", "rhai_tests", "rhai_base_tests")  # the other crates with tests
+RUNS_OF_A_FILE = "rhai_tests"  # the crate with the test that makes the runs of a file
+TESTS = ("rhai_parse", "rhai_lists")  # the other crates with tests
 SECONDS = "300"  # for a test
 STATUS = re.compile(r"^case=(\S+) run=ended status=(\d+) ", re.MULTILINE)
 PRINTED = re.compile(rb"^== (\d+)\n", re.MULTILINE)

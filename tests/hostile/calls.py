@@ -8,7 +8,7 @@ AMPLE, REFUSED = "_with_ample_memory", "_refused"
 
 # The last requests of `tokenize` shrink its two lists: they only give memory back. If one is refused, the list stays as
 # long as it is. A list without spare room is not shrunk.
-SHRINKS_LAST, SHRUNK_LISTS = "text_allocation::", 2
+SHRINKS_LAST, SHRUNK_LISTS = "base::text_allocation::", 2
 
 
 def names(path):

@@ -1,9 +1,9 @@
-"""Calls that the programs do not make: `parse` at each level, and `names_of_script`. Tests of `rhai_case_tests` (lists.rt)
-make them for a list that they read, with its limits and options."""
+"""Calls that the programs do not make: `parse` at each level, and `names_of_script`. Tests of `rhai_tests`
+(cases/lists.rt) make them for a list that they read, with its limits and options."""
 
 import table
 
-AT_A_LEVEL, NAMES = "lists::a_script_at_a_level", "lists::the_names_of_a_script"
+AT_A_LEVEL, NAMES = "cases::lists::a_script_at_a_level", "cases::lists::the_names_of_a_script"
 LIMITS = {"expr_depth": "64", "fn_depth": "32", "functions": str(2**64 - 1), "array": "0", "map": "0", "options": "191"}
 OPTIONS = ("IF_EXPR", "SWITCH_EXPR", "LOOP_EXPR", "STMT_EXPR", "ANON_FN", "LOOPING", "STRICT_VAR", "SHADOWING")
 LEVELS = ("None", "Simple", "Full")

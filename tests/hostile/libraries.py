@@ -1,8 +1,8 @@
 """What the library holds after a refusal: exactly what has ended by then.
 
-A test of `rhai_case_tests` (lists.rt) reads a list, and prints the first line of the answer, how many tokens were taken, and
-the library. It makes the runs of the table that have functions: with the tokenizer out of memory for each token, and
-with each request for memory refused. Where a function ends follows from the list alone (due.py).
+A test of `rhai_tests` (cases/lists.rt) reads a list, and prints the first line of the answer, how many tokens were
+taken, and the library. It makes the runs of the table that have functions: with the tokenizer out of memory for each
+token, and with each request for memory refused. Where a function ends follows from the list alone (due.py).
 """
 
 from typing import NamedTuple
@@ -11,7 +11,7 @@ import damaged
 from due import ended
 from entries import given
 
-TEST = "lists::the_library_after_a_list"
+TEST = "cases::lists::the_library_after_a_list"
 
 
 class Range(NamedTuple):

@@ -65,8 +65,8 @@ struct Given {
     count: usize,
 }
 
-// Sets an engine by some words: the depths of scripts and functions; the numbers of functions, items and properties; and
-// then the names of all options.
+// Sets an engine by some words: the depths of scripts and functions; the numbers of functions, items and properties;
+// and then the names of all options.
 fn set_engine(engine: &mut Engine, words: &str) -> Option<()> {
     let mut words = words.split(' ');
     engine.set_max_expr_depth(decimal(words.next()?)?);
