@@ -43,70 +43,70 @@ pub use Rattle.rhai_grammar.specs.Productions.{tested}
 
 -- what is written where a goal is read
 abbrev pub production : (g : Goal) → Production (Val g)
-production (goal.Whole context live) = whole context live
-production (goal.Expression context live) = expression_of context live
-production (goal.Operand context live) = choose view.Begins (operand_by context live)
-production (goal.RightOperand context live place) = choose (view.OperandAt place) (right_by context live)
-production (goal.Primary context live) = choose view.Begins (primary_by context live)
-production (goal.Called context live name qualified) = choose view.Calls (called_by context live name qualified)
+production (goal.In goal.Whole context live) = whole context live
+production (goal.In goal.Expression context live) = expression_of context live
+production (goal.In goal.Operand context live) = choose view.Begins (operand_by context live)
+production (goal.In (goal.RightOperand place) context live) = choose (view.OperandAt place) (right_by context live)
+production (goal.In goal.Primary context live) = choose view.Begins (primary_by context live)
+production (goal.In (goal.Called name qualified) context live) = choose view.Calls (called_by context live name qualified)
 production (goal.Path live x) = path_of live x
 production (goal.Links live spot) = choose view.Links (links_by live spot)
-production (goal.Index context live indexed) = index_of context live indexed
-production (goal.Member context live) = member_of context live
-production (goal.Postfix context live x) = postfix_of context live x
-production (goal.Arguments context live at) = arguments_of context live at
-production (goal.Items context live before) = items_of context live before
-production (goal.Elements context live opening before) = choose (view.ItemAt context.sizes.array (node_count before))
+production (goal.In (goal.Index indexed) context live) = index_of context live indexed
+production (goal.In goal.Member context live) = member_of context live
+production (goal.In (goal.Postfix x) context live) = postfix_of context live x
+production (goal.In (goal.Arguments at) context live) = arguments_of context live at
+production (goal.In (goal.Items before) context live) = items_of context live before
+production (goal.In (goal.Elements opening before) context live) = choose (view.ItemAt context.sizes.array (node_count before))
     (element_by context live opening before)
-production (goal.Fields context live opening before) = part (goal.NextKey context before)
+production (goal.In (goal.Fields opening before) context live) = part (goal.NextKey context before)
     (field_by context live opening before)
-production (goal.Segments context live start before) = segments_of context live start before
+production (goal.In (goal.Segments start before) context live) = segments_of context live start before
 production goal.TextAfter = in_text (λ end token at. give (end, text_of token, is_last_text token, at))
-production (goal.Jump context live at) = jump_of context live at
+production (goal.In (goal.Jump at) context live) = jump_of context live at
 production (goal.NextKey context before) = choose (view.KeyAt context.settings before) (key_by context before)
 production (goal.NextOperator filter) = choose (view.FollowerIn filter) follower_by
-production (goal.BinaryOp context live at parent lhs) = part (goal.NextOperator context.filter)
+production (goal.In (goal.BinaryOp at parent lhs) context live) = part (goal.NextOperator context.filter)
     (binary_of context live at parent lhs)
-production (goal.ExprStatement context live) = evaluated context live
-production (goal.VarName context live) = var_name context live
-production (goal.Initializer context live at) = initializer context live at
-production (goal.Definition context live at constant exported) = definition context live at constant exported
-production (goal.Import context live at) = import_of context live at
-production (goal.Export context live at) = choose view.Defined (export_by context live at)
+production (goal.In goal.ExprStatement context live) = evaluated context live
+production (goal.In goal.VarName context live) = var_name context live
+production (goal.In (goal.Initializer at) context live) = initializer context live at
+production (goal.In (goal.Definition at constant exported) context live) = definition context live at constant exported
+production (goal.In (goal.Import at) context live) = import_of context live at
+production (goal.In (goal.Export at) context live) = choose view.Defined (export_by context live at)
 production goal.Alias = alias
-production (goal.Statement context live) = choose (view.StartOf context) (statement_by context live)
-production (goal.Statements closing context live before) = choose (view.PlaceIn closing)
+production (goal.In goal.Statement context live) = choose (view.StartOf context) (statement_by context live)
+production (goal.In (goal.Statements closing before) context live) = choose (view.PlaceIn closing)
     (statements closing context live before)
 production goal.BlockStart = block_start
-production (goal.Inside context live) = inside_by context live (has_single_blocks context)
-production (goal.Block context live at) = block_of context live at
+production (goal.In goal.Inside context live) = inside_by context live (has_single_blocks context)
+production (goal.In (goal.Block at) context live) = block_of context live at
 production (goal.BlockEnd at fs) = block_end at fs
-production (goal.Construct context live at kind) = construct context live at kind
-production (goal.Braced context live at) = braced context live at
-production (goal.Guard context live) = guard context live
-production (goal.Iterated context live) = iterated context live
-production (goal.Conditional context live at) = conditional context live at
-production (goal.Branch context live at) = branch context live at
+production (goal.In (goal.Construct at kind) context live) = construct context live at kind
+production (goal.In (goal.Braced at) context live) = braced context live at
+production (goal.In goal.Guard context live) = guard context live
+production (goal.In goal.Iterated context live) = iterated context live
+production (goal.In (goal.Conditional at) context live) = conditional context live at
+production (goal.In (goal.Branch at) context live) = branch context live at
 production goal.LoopNames = loop_names
 production goal.Catch = catch_name
 production goal.DoEnd = choose view.EndOfDo do_end_by
-production (goal.Arms context live before) = choose view.ArmAt (arms_by context live before)
-production (goal.Arm context live before) = arm_of context live before
-production (goal.DefaultArm context live default) = default_arm context live default
-production (goal.Cases context live before) = cases_of context live before
-production (goal.Case context live) = literal (goal.Expression (in_case context) (in_block live)) refl give
-production (goal.CaseGuard context live) = case_guard context live
-production (goal.Action context live) = action_by context live (has_single_blocks context)
+production (goal.In (goal.Arms before) context live) = choose view.ArmAt (arms_by context live before)
+production (goal.In (goal.Arm before) context live) = arm_of context live before
+production (goal.In (goal.DefaultArm default) context live) = default_arm context live default
+production (goal.In (goal.Cases before) context live) = cases_of context live before
+production (goal.In goal.Case context live) = literal (goal.In goal.Expression (in_case context) (in_block live)) refl give
+production (goal.In goal.CaseGuard context live) = case_guard context live
+production (goal.In goal.Action context live) = action_by context live (has_single_blocks context)
 production (goal.ArmEnd itself) = choose (view.PartOf lists.Arms) (arm_end_by itself)
 production (goal.DefaultEnd default) = choose view.ArmAt (default_end_by default)
 production (goal.Comments before) = comments_of before
-production (goal.FunctionStatement context live comments first at is_private) =
+production (goal.In (goal.FunctionStatement comments first at is_private) context live) =
     function_statement context live comments first at is_private
 production (goal.Function context comments at is_private) = function context comments at is_private
 production goal.FunctionHead = function_head
 production (goal.ParameterList function) = choose view.Calls (parameters_by function)
 production (goal.Parameters parts function before) = choose (view.ParameterAt parts)
     (parameter_by parts function before)
-production (goal.Closure context live at by) = knows (may_begin context) (refusal cause.TooManyFunctions at)
+production (goal.In (goal.Closure at by) context live) = knows (may_begin context) (refusal cause.TooManyFunctions at)
     (closure_by context live at by)
-production (goal.ClosureBody context live) = closure_body context live
+production (goal.In goal.ClosureBody context live) = closure_body context live

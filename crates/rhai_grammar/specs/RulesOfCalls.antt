@@ -26,7 +26,7 @@ use Rattle.rhai_grammar.specs.Views as view
 --     arguments = "()" | "(" [ list(expression) ] ")"
 abbrev pub arguments_by : Context → Live → Position → (bang : Bool) → Calling → Production (Bool × Nodes)
 arguments_by context live name bang calls_by.Pair = this (λ _ at. give (bang, no_nodes))
-arguments_by context live name bang calls_by.List = this (λ _ at. part (goal.Arguments context live name) (λ ns.
+arguments_by context live name bang calls_by.List = this (λ _ at. part (goal.In (goal.Arguments name) context live) (λ ns.
     give (bang, ns)))
 arguments_by context live name bang _ = never (missing (codes "("))
 
@@ -46,7 +46,7 @@ path_of live x = this (λ _ at. name (λ n pos. path_next live (qualified live.i
 
 -- what calls a variable, whose module has to be known
 abbrev pub call_on : Context → Live → Node → Production Node
-call_on context live x = part (goal.Called context live (position_of x) (is_qualified x)) (λ call.
+call_on context live x = part (goal.In (goal.Called (position_of x) (is_qualified x)) context live) (λ call.
     tested (call_tree x call.0 call.1) (module_fault context live x))
 
 -- what calls a variable, if something does
@@ -65,7 +65,7 @@ property_of name at = if is_name name then if_next qualifies (never (λ _. no_pa
 
 -- a method with its arguments, or a property
 abbrev pub member_of : Context → Live → Production Node
-member_of context live = this (λ name at. if_next calls (part (goal.Called context live at false) (λ call.
+member_of context live = this (λ name at. if_next calls (part (goal.In (goal.Called at false) context live) (λ call.
     give (method_tree (text_of name) at call.0 call.1))) (property_of name at))
 
 -- after an index: that it may index what is before it is tested, and then the `]` comes
@@ -74,11 +74,11 @@ index_on indexed x = checked (index_refusal indexed x) (due due_token.RightBrack
 
 -- an index and the `]`
 abbrev pub index_of : Context → Live → Option Node → Production Node
-index_of context live indexed = part (goal.Expression context live) (index_on indexed)
+index_of context live indexed = part (goal.In goal.Expression context live) (index_on indexed)
 
 -- a member after a dot, one level deeper, and the links after it
 abbrev pub dotted_by : Live → LinkSpot → Lexeme → Position → MemberRole → Production (List Link)
-dotted_by live spot token at AMember = raise spot.settings at (λ deeper. part (goal.Member deeper live) (λ x.
+dotted_by live spot token at AMember = raise spot.settings at (λ deeper. part (goal.In goal.Member deeper live) (λ x.
     part (goal.Links live (spot_after_dot spot (member_link token at x))) give))
 dotted_by live spot token at (NoMember why) = never (λ m. why)
 
@@ -87,7 +87,7 @@ dotted_by live spot token at (NoMember why) = never (λ m. why)
 --     link = ( "[" | "?[" ) expression "]" | ( "." | "?." ) ( NAME [ arguments ] | WORD arguments )
 abbrev pub links_by : Live → LinkSpot → Linking → Production (List Link)
 links_by live spot link.Bracket = this (λ token at. raise spot.brackets at (λ deeper. raise deeper at (λ inside.
-    part (goal.Index inside live spot.indexed) (λ x. part (goal.Links live (spot_after_bracket spot
+    part (goal.In (goal.Index spot.indexed) inside live) (λ x. part (goal.Links live (spot_after_bracket spot
     (bracket_link token at x))) give))))
 links_by live spot link.Dot = this (λ token at. choose view.MemberAt (dotted_by live spot token at))
 links_by live spot link.Nothing = tested spot.before (last_fault spot.before)

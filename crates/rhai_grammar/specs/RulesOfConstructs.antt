@@ -33,19 +33,19 @@ block_end at fs = take (is_due due_token.RightBrace) (not_due due_token.RightBra
 
 -- what is in a block: one expression or assignment where no statements are allowed, else statements
 abbrev pub inside_by : Context → Live → Bool → Production node.Statements
-inside_by context live true = part (goal.ExprStatement context live) (λ f. give (one_statement f no_statements))
-inside_by context live false = part (goal.Statements Brace (below_global context) (in_block live) no_statements) (λ fs.
+inside_by context live true = part (goal.In goal.ExprStatement context live) (λ f. give (one_statement f no_statements))
+inside_by context live false = part (goal.In (goal.Statements Brace no_statements) (below_global context) (in_block live)) (λ fs.
     give fs.0)
 
 -- what is in a block, and its `}`
 --     block = "{" statements "}"
 abbrev pub block_of : Context → Live → Position → Production node.Block
-block_of context live at = part (goal.Inside context live) (λ fs. part (goal.BlockEnd at fs) give)
+block_of context live at = part (goal.In goal.Inside context live) (λ fs. part (goal.BlockEnd at fs) give)
 
 -- a block from its `{`, one level deeper than its construct
 abbrev pub braced : Context → Live → Position → Production node.Block
 braced context live at = part goal.BlockStart (λ opening. raise context at (λ deeper.
-    part (goal.Block deeper live opening) give))
+    part (goal.In (goal.Block opening) deeper live) give))
 
 -- after the expression of a guard: it may be a truth value, and is no assignment
 abbrev pub guard_on : Node → Production Node
@@ -55,24 +55,24 @@ guard_on x = checked (guard_fault x) (if_next (is_due due_token.Equals) (never (
 --     guard = expression
 abbrev pub guard : Context → Live → Production Node
 guard context live = if_next (is_due due_token.LeftBrace) (never (λ _. guard_expected))
-    (part (goal.Expression context live) guard_on)
+    (part (goal.In goal.Expression context live) guard_on)
 
 -- what `for` goes over: an expression that begins with no `{` and may be iterated
 abbrev pub iterated : Context → Live → Production Node
 iterated context live = if_next (is_due due_token.LeftBrace) (never (λ _. guard_expected))
-    (part (goal.Expression context live) (λ x. tested x (iterated_fault x)))
+    (part (goal.In goal.Expression context live) (λ x. tested x (iterated_fault x)))
 
 -- a guard, a block, and what follows `else`
 --     if = "if" guard block [ "else" ( block | if ) ]
 abbrev pub conditional : Context → Live → Position → Production node.Statement
-conditional context live at = part (goal.Guard context live) (λ x. part (goal.Braced context live at) (λ b.
-    part (goal.Branch context live at) (λ e. give (if_statement x b e at))))
+conditional context live at = part (goal.In goal.Guard context live) (λ x. part (goal.In (goal.Braced at) context live) (λ b.
+    part (goal.In (goal.Branch at) context live) (λ e. give (if_statement x b e at))))
 
 -- after `else` another `if`, one level deeper, or a block; or nothing
 abbrev pub branch : Context → Live → Position → Production node.Block
 branch context live at = if_next (is_due due_token.Else) (this (λ _ p. if_next (is_due due_token.If) (this (λ m pos.
-    raise context at (λ deeper. part (goal.Conditional deeper live pos) (λ f. give (made_block f)))))
-    (part (goal.Braced context live at) give))) (give no_block)
+    raise context at (λ deeper. part (goal.In (goal.Conditional pos) deeper live) (λ f. give (made_block f)))))
+    (part (goal.In (goal.Braced at) context live) give))) (give no_block)
 
 -- `catch`, and its variable in parentheses, if it has one
 abbrev pub catch_name : Production (Option (Text × Position))
@@ -99,19 +99,19 @@ loop_names = if_next (is_due due_token.LeftParen) (this (λ _ at. name (λ n p. 
 --     try = "try" block "catch" [ "(" NAME ")" ] block
 --     switch = "switch" expression "{" { arm [ "," ] } [ "_" "=>" action [ "," ] ] "}"
 abbrev pub construct : Context → Live → Position → Kind → Production node.Statement
-construct context live at kind.Block = part (goal.Block context live at) (λ b. give (block_statement b))
-construct context live at kind.If = part (goal.Conditional context live at) give
-construct context live at kind.Switch = part (goal.Expression context live) (λ x.
-    due due_token.LeftBrace (part (goal.Arms context live nothing_collected) (λ all. give (switch_tree x all at))))
-construct context live at kind.While = part (goal.Guard context live) (λ x.
-    part (goal.Braced (loop_body context) live at) (λ b. give (while_statement x b at)))
-construct context live at kind.Loop = part (goal.Braced (loop_body context) live at) (λ b.
+construct context live at kind.Block = part (goal.In (goal.Block at) context live) (λ b. give (block_statement b))
+construct context live at kind.If = part (goal.In (goal.Conditional at) context live) give
+construct context live at kind.Switch = part (goal.In goal.Expression context live) (λ x.
+    due due_token.LeftBrace (part (goal.In (goal.Arms nothing_collected) context live) (λ all. give (switch_tree x all at))))
+construct context live at kind.While = part (goal.In goal.Guard context live) (λ x.
+    part (goal.In (goal.Braced at) (loop_body context) live) (λ b. give (while_statement x b at)))
+construct context live at kind.Loop = part (goal.In (goal.Braced at) (loop_body context) live) (λ b.
     give (while_statement (unit nowhere) b at))
-construct context live at kind.Do = part (goal.Braced (loop_body context) live at) (λ b. part goal.DoEnd (λ negated.
-    part (goal.Guard context live) (λ x. give (do_statement x b negated at))))
-construct context live at kind.For = part goal.LoopNames (λ names. part (goal.Iterated context live) (λ x.
-    part (goal.Braced (loop_body context) (loop_live names.0 names.1 live) at) (λ b.
+construct context live at kind.Do = part (goal.In (goal.Braced at) (loop_body context) live) (λ b. part goal.DoEnd (λ negated.
+    part (goal.In goal.Guard context live) (λ x. give (do_statement x b negated at))))
+construct context live at kind.For = part goal.LoopNames (λ names. part (goal.In goal.Iterated context live) (λ x.
+    part (goal.In (goal.Braced at) (loop_body context) (loop_live names.0 names.1 live)) (λ b.
     give (for_statement names.0 names.1 x b at))))
-construct context live at kind.Try = part (goal.Braced context live at) (λ b. part goal.Catch (λ name.
-    part (goal.Braced context (catch_live (caught_name name) live) at) (λ handler.
+construct context live at kind.Try = part (goal.In (goal.Braced at) context live) (λ b. part goal.Catch (λ name.
+    part (goal.In (goal.Braced at) context (catch_live (caught_name name) live)) (λ handler.
     give (try_catch b (catch_node name) handler at))))

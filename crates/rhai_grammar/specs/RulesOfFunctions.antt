@@ -70,7 +70,7 @@ parameter_by parts function before place.Nothing = never (no_parameter parts)
 -- the body of a function, one level deeper; its parameters alone are live there
 abbrev pub function_body : Context → List Comment → Position → Bool → Option Text × Text → List Text → Production Ended
 function_body context comments at is_private head names = if_next (is_due due_token.LeftBrace) (this (λ _ opening.
-    raise context at (λ deeper. part (goal.Block deeper (parameters_live names) opening) (λ b.
+    raise context at (λ deeper. part (goal.In (goal.Block opening) deeper (parameters_live names)) (λ b.
     give (ended_function comments is_private head.0 head.1 names b))))) (never (no_body head.1))
 
 -- the name of a function, its parameters, and its body
@@ -117,7 +117,7 @@ closure_end context live at names body us number = captured us context live (clo
 -- captured there. Where a function with its key is there when it ends, that is refused at its first token.
 abbrev pub closure_of : Context → Live → Position → List Text → Production Node
 closure_of context live at names = raise (in_closure context live) at (λ deeper.
-    apart (goal.ClosureBody deeper (parameters_live names)) (closure_end context live at names))
+    apart (goal.In goal.ClosureBody deeper (parameters_live names)) (closure_end context live at names))
 
 -- a closure after its first token: without parameters after `||`, or with those up to the next `|`
 --     closure = ( "||" | "|" [ list(NAME) ] "|" ) [ statement ]
@@ -128,5 +128,5 @@ closure_by context live at bars.List = part (goal.Parameters lists.ClosureParame
 
 -- the statement of a closure, or nothing before the end mark
 abbrev pub closure_body : Context → Live → Production node.Statement
-closure_body context live = if_next is_end (here (λ at. give (noop at))) (part (goal.Statement context live) (λ f.
+closure_body context live = if_next is_end (here (λ at. give (noop at))) (part (goal.In goal.Statement context live) (λ f.
     give f.0))

@@ -30,24 +30,23 @@ parted parts on end after.Nothing = never (not_after parts)
 
 -- an argument, and those that follow; a comma may stand before the `)`
 abbrev pub items_of : Context → Live → Nodes → Production Nodes
-items_of context live before = part (goal.Expression context live) (λ x. choose (view.PartOf lists.Arguments)
+items_of context live before = part (goal.In goal.Expression context live) (λ x. choose (view.PartOf lists.Arguments)
     (parted lists.Arguments (if_next (λ token. is_close (after_part lists.Arguments token))
-    (this (λ _ at. give (with_node before x))) (part (goal.Items context live (with_node before x)) give))
+    (this (λ _ at. give (with_node before x))) (part (goal.In (goal.Items (with_node before x)) context live) give))
     (give (with_node before x))))
 
 -- arguments after their `(`, one level deeper than the name that they follow
 abbrev pub arguments_of : Context → Live → Position → Production Nodes
 arguments_of context live name = if_next no_argument (never (missing (codes ")")))
     (if_next (λ token. is_close (after_part lists.Arguments token)) (this (λ _ at. give no_nodes))
-    (raise context name (λ deeper. part (goal.Items deeper live no_nodes) give)))
+    (raise context name (λ deeper. part (goal.In (goal.Items no_nodes) deeper live) give)))
 
 -- the `]` of an array, or one more item, one level deeper, and so on up to the `]`
 --     array = "[" [ list(expression) ] "]"
 abbrev pub element_by : Context → Live → Position → Nodes → ItemRole → Production Nodes
 element_by context live opening before place.End = this (λ _ at. give before)
-element_by context live opening before place.Item = raise context opening (λ deeper. part (goal.Expression deeper live)
-    (λ x. choose (view.PartOf lists.Array) (parted lists.Array (part (goal.Elements context live opening
-    (with_node before x)) give) (give (with_node before x)))))
+element_by context live opening before place.Item = raise context opening (λ deeper. part (goal.In goal.Expression deeper live)
+    (λ x. choose (view.PartOf lists.Array) (parted lists.Array (part (goal.In (goal.Elements opening (with_node before x)) context live) give) (give (with_node before x)))))
 element_by context live opening before place.Nothing = never (no_item context.sizes.array)
 
 -- after the name of a property: a colon, and room for one more
@@ -67,11 +66,11 @@ key_by context before (NoKey why) = never (λ _. why)
 -- after the value of a property: more of them after a comma, or the `}`
 abbrev pub field_next : Context → Live → Position → Properties → Production Properties
 field_next context live opening fields = choose (view.PartOf lists.Map) (parted lists.Map
-    (part (goal.Fields context live opening fields) give) (give fields))
+    (part (goal.In (goal.Fields opening fields) context live) give) (give fields))
 
 -- the value of a property, one level deeper, and the properties after it
 --     map = "#{" [ list(key ":" expression) ] "}"
 abbrev pub field_by : Context → Live → Position → Properties → Option (Text × Position) → Production Properties
 field_by context live opening before None = give before
-field_by context live opening before (Some key) = raise context opening (λ deeper. part (goal.Expression deeper live)
+field_by context live opening before (Some key) = raise context opening (λ deeper. part (goal.In goal.Expression deeper live)
     (λ x. field_next context live opening (with_property before key.0 key.1 x)))

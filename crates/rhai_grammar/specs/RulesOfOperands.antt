@@ -53,20 +53,20 @@ abbrev pub primary_by : Context → Live → Beginning → Production Node
 primary_by context live begin.Value = this (λ token at. give (value_of token at))
 primary_by context live begin.Name = this (λ token at. name_of context live (text_of token) at)
 primary_by context live begin.Word = this (λ token at. word_of context (text_of token) at)
-primary_by context live begin.Group = this (λ _ at. raise context at (λ deeper. part (goal.Expression deeper live)
+primary_by context live begin.Group = this (λ _ at. raise context at (λ deeper. part (goal.In goal.Expression deeper live)
     (λ x. due due_token.RightParen (give x))))
 primary_by context live begin.Array = this (λ _ at. raise context at (λ deeper.
-    part (goal.Elements deeper live at no_nodes) (λ ns. give (array ns at))))
+    part (goal.In (goal.Elements at no_nodes) deeper live) (λ ns. give (array ns at))))
 primary_by context live begin.Map = this (λ _ at. raise context at (λ deeper.
-    part (goal.Fields deeper live at no_properties) (λ ps. give (object_map ps at))))
+    part (goal.In (goal.Fields at no_properties) deeper live) (λ ps. give (object_map ps at))))
 primary_by context live begin.Interpolated = this (λ token at. raise context at (λ deeper.
-    part (goal.Segments deeper live at (added_text no_nodes (text_of token) at)) (λ ns. give (interpolated ns at))))
+    part (goal.In (goal.Segments at (added_text no_nodes (text_of token) at)) deeper live) (λ ns. give (interpolated ns at))))
 primary_by context live (begin.Construct kind) = if may_be_value context kind
     then this (λ _ at. raise context at (λ deeper. raise deeper at (λ inside.
-    part (goal.Construct inside live at kind) (λ f. give (block_value (made_block f))))))
+    part (goal.In (goal.Construct at kind) inside live) (λ f. give (block_value (made_block f))))))
     else never no_operand
 primary_by context live (begin.Closure by) = if may_be_closure context by
-    then this (λ _ at. part (goal.Closure context live at by) give) else never no_operand
+    then this (λ _ at. part (goal.In (goal.Closure at by) context live) give) else never no_operand
 primary_by context live begin.Range = here (λ at. give (integer (pos 0) at))
 primary_by context live _ = never no_operand
 
@@ -76,25 +76,25 @@ sign_on token at x = must (sign_holds token x) (malformed at x) (give (signed to
 
 -- What follows a primary: a call, links, or none of these. That its module is known is tested after the last link.
 abbrev pub operand_ends : Context → Live → Node → Production Node
-operand_ends context live x = part (goal.Postfix context live x) (λ y.
+operand_ends context live x = part (goal.In (goal.Postfix x) context live) (λ y.
     part (goal.Links live (spot_after_operand context y)) (λ ls. tested (chained y ls) (module_fault context live y)))
 
 -- a sign and its operand, one level deeper; or a primary with what follows it
 --     operand = { sign } ( ZERO | primary { "::" NAME } [ [ "!" ] arguments ] { link } )
 --     sign = "-" | "+" | "!"
 abbrev pub operand_by : Context → Live → Beginning → Production Node
-operand_by context live begin.Sign = this (λ token at. raise context at (λ deeper. part (goal.Operand deeper live)
+operand_by context live begin.Sign = this (λ token at. raise context at (λ deeper. part (goal.In goal.Operand deeper live)
     (sign_on token at)))
-operand_by context live _ = part (goal.Primary context live) (operand_ends context live)
+operand_by context live _ = part (goal.In goal.Primary context live) (operand_ends context live)
 
 -- what stands after an operator: nothing after a range, a jump after `??`, or an operand
 --     right = operand | jump | OMITTED
 --     OMITTED =
 abbrev pub right_by : Context → Live → OperandStart → Production Node
 right_by context live first.Omitted = here (λ at. give (unit at))
-right_by context live first.Jump = part (goal.Statement (below_global context) (in_block live)) (λ f.
+right_by context live first.Jump = part (goal.In goal.Statement (below_global context) (in_block live)) (λ f.
     give (block_value (made_block f.0)))
-right_by context live first.Written = part (goal.Operand context live) give
+right_by context live first.Written = part (goal.In goal.Operand context live) give
 
 -- an operator, with its strength and whether equal ones group to the right; or none
 abbrev pub follower_by : Follower → Production (Option (ℕ × Bool))
@@ -106,18 +106,18 @@ follower_by Other = give None
 abbrev pub binary_next : Context → Live → ℕ → Node → Lexeme → Position → Node → Production Node
 binary_next context live parent lhs token op_at rhs = must (boolean_holds token lhs) (mismatched lhs)
     (must (boolean_holds token rhs) (mismatched rhs)
-    (part (goal.BinaryOp context live op_at parent (operator_tree token op_at lhs rhs)) give))
+    (part (goal.In (goal.BinaryOp op_at parent (operator_tree token op_at lhs rhs)) context live) give))
 
 -- after an operator of this strength and its right operand: all that groups more tightly, one level deeper
 abbrev pub binary_right : Context → Live → Position → ℕ → Node → ℕ → Lexeme → Position → Node → Production Node
 binary_right context live at parent lhs strength token op_at rhs = part (goal.NextOperator context.filter) (λ next.
-    raise context at (λ deeper. part (goal.BinaryOp deeper live (position_of rhs) strength rhs)
+    raise context at (λ deeper. part (goal.In (goal.BinaryOp (position_of rhs) strength rhs) deeper live)
     (binary_next deeper live parent lhs token op_at)))
 
 -- an operator of this strength that goes on with a run, and what stands on its right
 abbrev pub binary_on : Context → Live → Position → ℕ → Node → ℕ → Production Node
 binary_on context live at parent lhs strength = this (λ token op_at.
-    part (goal.RightOperand context live (role_after token))
+    part (goal.In (goal.RightOperand (role_after token)) context live)
     (binary_right context live at parent lhs strength token op_at))
 
 -- what follows an operand in a run of some strength: an operator that goes on with it, or what ends it
@@ -130,20 +130,19 @@ binary_of context live at parent lhs (Some op) = if continues parent op.0 op.1
 -- runs of operators (`Runs`): the laws `expressions_are_runs` and `runs_are_expressions` say it in both directions.
 --     expression = operand { binary right }
 abbrev pub expression_of : Context → Live → Production Node
-expression_of context live = here (λ at. raise context at (λ deeper. part (goal.Operand deeper live) (λ x.
-    part (goal.BinaryOp deeper live (position_of x) 1 x) give)))
+expression_of context live = here (λ at. raise context at (λ deeper. part (goal.In goal.Operand deeper live) (λ x.
+    part (goal.In (goal.BinaryOp (position_of x) 1 x) deeper live) give)))
 
 -- an expression, and then the end mark
 --     formula = expression END
 abbrev pub whole : Context → Live → Production Node
-whole context live = part (goal.Expression context live) (λ x. if_next is_end (give x) (never unexpected))
+whole context live = part (goal.In goal.Expression context live) (λ x. if_next is_end (give x) (never unexpected))
 
 -- A block of an interpolated string with the text after it, and so on up to the last text. Each is one level deeper,
 -- which is refused at the first text.
 --     string = TEXT block { TEXT block } STRING
 abbrev pub segments_of : Context → Live → Position → Nodes → Production Nodes
 segments_of context live start before = part goal.BlockStart (λ opening. raise context start (λ deeper.
-    part (goal.Inside deeper live) (λ fs. part goal.TextAfter (λ t.
+    part (goal.In goal.Inside deeper live) (λ fs. part goal.TextAfter (λ t.
     if t.2 then give (added_text (with_node before (block_value (braces fs opening t.0))) t.1 t.3)
-    else part (goal.Segments context live start
-    (added_text (with_node before (block_value (braces fs opening t.0))) t.1 t.3)) give))))
+    else part (goal.In (goal.Segments start (added_text (with_node before (block_value (braces fs opening t.0))) t.1 t.3)) context live) give))))

@@ -23,20 +23,19 @@ use Rattle.rhai_grammar.specs.Goals as goal
 -- a case, and others after a `|`
 --     case = expression
 abbrev pub cases_of : Context → Live → Nodes → Production Nodes
-cases_of context live before = part (goal.Case context live) (λ x. if_next (is_due due_token.Pipe) (this (λ _ at.
-    part (goal.Cases context live (with_node before x)) give)) (give (with_node before x)))
+cases_of context live before = part (goal.In goal.Case context live) (λ x. if_next (is_due due_token.Pipe) (this (λ _ at.
+    part (goal.In (goal.Cases (with_node before x)) context live) give)) (give (with_node before x)))
 
 -- `if` and a guard, or nothing
 abbrev pub case_guard : Context → Live → Production Node
-case_guard context live = if_next (is_due due_token.If) (this (λ _ at. part (goal.Guard context live) give))
+case_guard context live = if_next (is_due due_token.If) (this (λ _ at. part (goal.In goal.Guard context live) give))
     (give no_guard)
 
 -- an expression, where no statements are allowed, else a statement, whose slots end with the arm
 --     action = statement
 abbrev pub action_by : Context → Live → Bool → Production (Node × Bool)
-action_by context live true = part (goal.Expression context live) (λ x. give (x, false))
-action_by context live false = if_next is_end (never (λ _. cause.UnexpectedEOF)) (part (goal.Statement
-    (below_global context) (in_block live)) (λ f. give (block_value (made_block f.0), ends_arm f.0)))
+action_by context live true = part (goal.In goal.Expression context live) (λ x. give (x, false))
+action_by context live false = if_next is_end (never (λ _. cause.UnexpectedEOF)) (part (goal.In goal.Statement (below_global context) (in_block live)) (λ f. give (block_value (made_block f.0), ends_arm f.0)))
 
 -- A comma, or the `}`, or nothing after an arm that needs no comma.
 abbrev pub arm_end_by : Bool → AfterPart → Production (Unit {0})
@@ -55,8 +54,8 @@ arm_on before xs guard does = checked (arm_fault before xs) (arm_ends xs guard d
 -- cases, a guard, and what is done there
 --     arm = case { "|" case } [ "if" guard ] "=>" action
 abbrev pub arm_of : Context → Live → Collected → Production (Nodes × Node × Node)
-arm_of context live before = part (goal.Cases context live no_nodes) (λ xs. part (goal.CaseGuard context live)
-    (λ guard. due due_token.DoubleArrow (part (goal.Action context live) (arm_on before xs guard))))
+arm_of context live before = part (goal.In (goal.Cases no_nodes) context live) (λ xs. part (goal.In goal.CaseGuard context live)
+    (λ guard. due due_token.DoubleArrow (part (goal.In goal.Action context live) (arm_on before xs guard))))
 
 -- the `}` after the default arm; another arm there is refused at the `_`
 abbrev pub default_end_by : Position → ArmRole → Production (Unit {0})
@@ -71,13 +70,13 @@ default_ends default does = part (goal.ArmEnd does.1) (λ end. part (goal.Defaul
 -- the default arm after its `_`; it has no guard and is the last
 abbrev pub default_arm : Context → Live → Position → Production Node
 default_arm context live default = if_next (is_due due_token.If) (never (λ _. cause.WrongSwitchCaseCondition))
-    (due due_token.DoubleArrow (part (goal.Action context live) (default_ends default)))
+    (due due_token.DoubleArrow (part (goal.In goal.Action context live) (default_ends default)))
 
 -- an arm with cases, or the default arm, or the `}`
 abbrev pub arms_by : Context → Live → Collected → ArmRole → Production Collected
-arms_by context live before arm.Case = part (goal.Arm context live before) (λ a.
-    part (goal.Arms context live (with_arm_collected before a.0 a.1 a.2)) give)
-arms_by context live before arm.Default = this (λ _ at. part (goal.DefaultArm context live at) (λ x.
+arms_by context live before arm.Case = part (goal.In (goal.Arm before) context live) (λ a.
+    part (goal.In (goal.Arms (with_arm_collected before a.0 a.1 a.2)) context live) give)
+arms_by context live before arm.Default = this (λ _ at. part (goal.In (goal.DefaultArm at) context live) (λ x.
     give (with_default_collected before x)))
 arms_by context live before arm.Close = this (λ _ at. give before)
 arms_by context live before arm.Nothing = never (missing (codes "}"))

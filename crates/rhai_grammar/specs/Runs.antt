@@ -12,7 +12,7 @@ use Rattle.rhai_grammar.specs.Strengths.{left_of, right_of, is_operator}
 use Rattle.rhai_grammar.specs.Verdicts.{anything, operator_known, run_ends, raise_due}
 use Rattle.rhai_grammar.specs.declared.filter.ExprFilter.{ExprFilter}
 use Rattle.rhai_grammar.specs.declared.filter.ExprFilter.TheVariants.{All}
-use Rattle.rhai_grammar.specs.Goals.{Operand, RightOperand, Expression}
+use Rattle.rhai_grammar.specs.Goals.{In, Operand, RightOperand, Expression}
 use Rattle.rhai_grammar.specs.Rules.{production}
 use Rattle.rhai_grammar.specs.Forms.{Form, demands}
 
@@ -24,8 +24,8 @@ pub data Side : Type 0 where
 
 -- a first operand there, and what it demands
 abbrev pub First : Side → Context → Live → Node → Type 0
-First Outermost c w x = Form production (Operand c w) x
-First (RightOf op d at) c w x = Form production (RightOperand c w (role_after op)) x
+First Outermost c w x = Form production (In Operand c w) x
+First (RightOf op d at) c w x = Form production (In (RightOperand (role_after op)) c w) x
 
 abbrev pub first_demands : (side : Side) (c : Context) (w : Live) (x : Node) → First side c w x → Demands → Demands
 first_demands Outermost c w x f more = demands production f more
@@ -94,7 +94,7 @@ pub record AsRun (c : Context) (w : Live) (x : Node) (k : Demands) (s t : Point)
 -- What fits as an expression fits as a run with the same tree: operators are grouped as their strengths say.
 abbrev pub ExpressionsAreRuns : Type 0
 ExpressionsAreRuns =
-    (c : Context) (w : Live) (x : Node) (f : Form production (Expression c w) x) (k : Demands) (s t : Point)
+    (c : Context) (w : Live) (x : Node) (f : Form production (In Expression c w) x) (k : Demands) (s t : Point)
     → Met (demands production f k) s t → AsRun c w x k s t
 
 -- What fits as a run fits as an expression with the same tree.
@@ -102,4 +102,4 @@ abbrev pub RunsAreExpressions : Type 0
 RunsAreExpressions =
     (c after : Context) (w : Live) (at : Position) (top : Option Lexeme) (x : Node)
     (f : Run c.filter w (level_up c) (level_up c) Outermost after at top x) (k : Demands) (s t : Point)
-    → Met (expressed c f k) s t → (g : Form production (Expression c w) x) × Met (demands production g k) s t
+    → Met (expressed c f k) s t → (g : Form production (In Expression c w) x) × Met (demands production g k) s t

@@ -87,11 +87,11 @@ no_operator {filter = filter} {u = u} e =
     given))
 
 pub operator_end : (c : Context) (w : Live) (at : Position) (parent : ℕ) (x : Node) {u : Point} → Ends c.filter u
-    → Fit (R.BinaryOp c w at parent x) x u u
+    → Fit (R.In (R.BinaryOp at parent x) c w) x u u
 operator_end c w at parent x e = formed (F.part (no_operator e) given)
 
 pub postfix_end : (c : Context) (w : Live) (x : Node) {u : Point} → is_variable x ≡ false → Unlinked u
-    → Fit (R.Postfix c w x) x u u
+    → Fit (R.In (R.Postfix x) c w) x u u
 postfix_end c w x v e =
     formed (F.if_not e.comes (ap (λ b. b && qualifies e.lexeme) v)
     (F.if_not e.comes (ap (λ b. b && calls e.lexeme) v) given))
@@ -101,37 +101,37 @@ is_sign begin.Sign = true
 is_sign _ = false
 
 pub operand_of : (c : Context) (w : Live) (x : Node) (v : Beginning) {l : Lexeme} {s u : Point}
-    → Comes l here s → beginning l ≡ v → is_sign v ≡ false → Fit (R.Primary c w) x s u → is_variable x ≡ false
-    → Unlinked u → Fit (R.Operand c w) x s u
+    → Comes l here s → beginning l ≡ v → is_sign v ≡ false → Fit (R.In R.Primary c w) x s u → is_variable x ≡ false
+    → Unlinked u → Fit (R.In R.Operand c w) x s u
 operand_of c w x v {s = s} {u = u} n b other f plain e =
-    formed (F.chooses n (subst (λ v. FitIn (R.Operand c w) (P.operand_by c w v) x s u) (sym b) (by v other)))
+    formed (F.chooses n (subst (λ v. FitIn (R.In R.Operand c w) (P.operand_by c w v) x s u) (sym b) (by v other)))
   where
-    by : (v : Beginning) → is_sign v ≡ false → FitIn (R.Operand c w) (P.operand_by c w v) x s u
+    by : (v : Beginning) → is_sign v ≡ false → FitIn (R.In R.Operand c w) (P.operand_by c w v) x s u
     by begin.Sign other = absurd cc
     by _ other = F.part f (F.part (postfix_end c w x plain e) (F.part (links_end c w x e)
         (F.checked (no_module c w x plain) given)))
 
 pub expression_of : (c : Context) (w : Live) (x : Node) {l : Lexeme} {s u : Point} → Comes l here s
-    → may_raise c ≡ true → Fit (R.Operand (level_up c) w) x s u → Ends c.filter u → Fit (R.Expression c w) x s u
+    → may_raise c ≡ true → Fit (R.In R.Operand (level_up c) w) x s u → Ends c.filter u → Fit (R.In R.Expression c w) x s u
 expression_of c w x n room f e =
     formed (F.looks n (F.must room (F.part f (F.part (operator_end (level_up c) w _ 1 x e) given))))
 
 pub value_of_token : (c : Context) (w : Live) {l : Lexeme} {s : Point} → Comes l here s
-    → beginning l ≡ begin.Value → Fit (R.Primary c w) (value_of l here) s (past code s)
+    → beginning l ≡ begin.Value → Fit (R.In R.Primary c w) (value_of l here) s (past code s)
 value_of_token c w {l = l} {s = s} n b =
-    formed (F.chooses n (subst (λ v. FitIn (R.Primary c w) (P.primary_by c w v) (value_of l here) s (past code s))
+    formed (F.chooses n (subst (λ v. FitIn (R.In R.Primary c w) (P.primary_by c w v) (value_of l here) s (past code s))
     (sym b) (F.this n given)))
 
 -- an operand that is a value, and an expression that is one
 pub value_operand : (c : Context) (w : Live) {l : Lexeme} {s : Point} → Comes l here s → beginning l ≡ begin.Value
     → is_variable (value_of l here) ≡ false → Unlinked (past code s)
-    → Fit (R.Operand c w) (value_of l here) s (past code s)
+    → Fit (R.In R.Operand c w) (value_of l here) s (past code s)
 value_operand c w {l = l} n b plain e =
     operand_of c w (value_of l here) begin.Value n b refl (value_of_token c w n b) plain e
 
 pub value_expression : (c : Context) (w : Live) {l : Lexeme} {s : Point} → Comes l here s → may_raise c ≡ true
     → beginning l ≡ begin.Value → is_variable (value_of l here) ≡ false → Ends c.filter (past code s)
-    → Fit (R.Expression c w) (value_of l here) s (past code s)
+    → Fit (R.In R.Expression c w) (value_of l here) s (past code s)
 value_expression c w {l = l} n room b plain e =
     expression_of c w (value_of l here) n room (value_operand (level_up c) w n b plain (no_link e)) e
 
@@ -151,16 +151,16 @@ abbrev pub Starts : Context → Live → Lexeme → Type 0
 Starts c w l = (is_added l ≡ true) ⊎ IsBegun c w l
 
 pub by_expression : (c : Context) (w : Live) (l : Lexeme) {x : Node} {s u : Point} → Comes l here s
-    → Fit (R.Expression (unlimited c) w) x s u → Starts (unlimited c) w l
+    → Fit (R.In R.Expression (unlimited c) w) x s u → Starts (unlimited c) w l
 by_expression c w l {x = x} {s = s} {u = u} n f =
     inr (x, f.form, s, u, ap (λ (i : Item). i.lexeme) n.is, f.met Nothing u refl)
 
 pub by_operand : (c : Context) (w : Live) (l : Lexeme) {x : Node} {s u : Point} → Comes l here s
-    → Fit (R.Operand (inner c) w) x s u → Ends c.filter u → Starts (unlimited c) w l
+    → Fit (R.In R.Operand (inner c) w) x s u → Ends c.filter u → Starts (unlimited c) w l
 by_operand c w l {x = x} n f e = by_expression c w l n (expression_of (unlimited c) w x n refl f e)
 
 pub by_primary : (c : Context) (w : Live) (l : Lexeme) (v : Beginning) {x : Node} {s u : Point} → Comes l here s
-    → beginning l ≡ v → is_sign v ≡ false → Fit (R.Primary (inner c) w) x s u → is_variable x ≡ false
+    → beginning l ≡ v → is_sign v ≡ false → Fit (R.In R.Primary (inner c) w) x s u → is_variable x ≡ false
     → Ends c.filter u → Starts (unlimited c) w l
 by_primary c w l v {x = x} n b other f plain e =
     by_operand c w l n (operand_of (inner c) w x v n b other f plain (no_link e)) e
@@ -205,7 +205,7 @@ pub signed : (c : Context) (w : Live) (t : Token) → beginning (Sign t) ≡ beg
     → sign_holds (Sign t) (value_of one here) ≡ true → Starts (unlimited c) w (Sign t)
 signed c w t b holds =
     let n : Comes (Sign t) here (pt (Sign t ∷ one ∷ []) []) = sign t refl in
-    by_operand c w (Sign t) n (formed (F.chooses n (subst (λ v. FitIn (R.Operand (inner c) w)
+    by_operand c w (Sign t) n (formed (F.chooses n (subst (λ v. FitIn (R.In R.Operand (inner c) w)
     (P.operand_by (inner c) w v) (signed_tree (Sign t) here (value_of one here)) (pt (Sign t ∷ one ∷ []) [])
     (pt [] (tk one (tk (Sign t) [])))) (sym b)
     (F.this n (F.must refl (F.part (value_operand (level_up (inner c)) w (next one refl refl) refl refl
@@ -229,17 +229,17 @@ range c w t b l f omitted left right =
     let zero = node.integer (pos 0) here in
     let unit = node.unit here in
     let op : Option (ℕ × Bool) = Some (140, false) in
-    let primary : Fit (R.Primary (inner c) w) zero s s = formed (F.chooses n (subst (λ v. FitIn (R.Primary (inner c) w)
+    let primary : Fit (R.In R.Primary (inner c) w) zero s s = formed (F.chooses n (subst (λ v. FitIn (R.In R.Primary (inner c) w)
     (P.primary_by (inner c) w v) zero s s) (sym b) (F.looks n given))) in
     let operand = operand_of (inner c) w zero begin.Range n b refl primary refl
     (record { lexeme = Sign t; comes = n; unlinked = l }) in
     let operator : Fit (R.NextOperator c.filter) op s s =
     formed (F.chooses n (subst (λ v. FitIn (R.NextOperator c.filter)
     (P.follower_by v) op s s) (sym f) given)) in
-    let side : Fit (R.RightOperand (inner c) w (role_after (Sign t))) unit u u = formed (F.chooses close
-    (subst (λ v. FitIn (R.RightOperand (inner c) w (role_after (Sign t))) (P.right_by (inner c) w v) unit u u)
+    let side : Fit (R.In (R.RightOperand (role_after (Sign t))) (inner c) w) unit u u = formed (F.chooses close
+    (subst (λ v. FitIn (R.In (R.RightOperand (role_after (Sign t))) (inner c) w) (P.right_by (inner c) w v) unit u u)
     (sym omitted) (F.looks close given))) in
-    let run : Fit (R.BinaryOp (inner c) w here 1 zero) (operator_tree (Sign t) here zero unit) s u =
+    let run : Fit (R.In (R.BinaryOp here 1 zero) (inner c) w) (operator_tree (Sign t) here zero unit) s u =
     formed (F.part operator
     (F.this n (F.part side (F.part (no_operator e)
     (F.must refl (F.part (operator_end (level_up (inner c)) w here 140 unit e)

@@ -45,21 +45,21 @@ with_block false ls = Sign token.RightBrace ∷ ls
 
 inside : (c : Context) (w : Live) (b : Bool) → has_single_blocks c ≡ b → may_raise c ≡ true → (ls : List Lexeme)
     (ts : List Taken)
-    → Fit (R.Inside c w) (inside_tree b) (pt (with_block b ls) ts) (pt (Sign token.RightBrace ∷ ls) (taken_in b ts))
+    → Fit (R.In R.Inside c w) (inside_tree b) (pt (with_block b ls) ts) (pt (Sign token.RightBrace ∷ ls) (taken_in b ts))
 inside c w true e room ls ts =
-    formed (subst (λ s. FitIn (R.Inside c w) (P.inside_by c w s) (inside_tree true) (pt (with_block true ls) ts)
+    formed (subst (λ s. FitIn (R.In R.Inside c w) (P.inside_by c w s) (inside_tree true) (pt (with_block true ls) ts)
     (pt (Sign token.RightBrace ∷ ls) (tk one ts))) (sym e)
     (F.part (formed (F.part (value_expression c w (next one refl refl) room refl refl
     (ends token.RightBrace refl refl refl))
     (F.if_not (sign token.RightBrace refl) refl given))) given))
 inside c w false e room ls ts =
-    formed (subst (λ s. FitIn (R.Inside c w) (P.inside_by c w s) (inside_tree false) (pt (with_block false ls) ts)
+    formed (subst (λ s. FitIn (R.In R.Inside c w) (P.inside_by c w s) (inside_tree false) (pt (with_block false ls) ts)
     (pt (Sign token.RightBrace ∷ ls) ts)) (sym e)
     (F.part (formed (F.chooses (sign token.RightBrace refl) given)) given))
 
 block : (c : Context) (w : Live) (b : Bool) → has_single_blocks c ≡ b → may_raise c ≡ true → (ls : List Lexeme)
     (ts : List Taken)
-    → Fit (R.Block c w here) (node.braces (inside_tree b) here here) (pt (with_block b ls) ts)
+    → Fit (R.In (R.Block here) c w) (node.braces (inside_tree b) here here) (pt (with_block b ls) ts)
     (pt ls (tk (Sign token.RightBrace) (taken_in b ts)))
 block c w b e room ls ts =
     formed (F.part (inside c w b e room ls ts) (F.part
@@ -68,7 +68,7 @@ block c w b e room ls ts =
 braced : (c : Context) (w : Live) (b : Bool) → has_single_blocks c ≡ b → may_raise c ≡ true
     → may_raise (level_up c) ≡ true
     → (ls : List Lexeme) (ts : List Taken)
-    → Fit (R.Braced c w here) (node.braces (inside_tree b) here here)
+    → Fit (R.In (R.Braced here) c w) (node.braces (inside_tree b) here here)
     (pt (Sign token.LeftBrace ∷ with_block b ls) ts)
     (pt ls (tk (Sign token.RightBrace) (taken_in b (tk (Sign token.LeftBrace) ts))))
 braced c w b e room deeper ls ts =
@@ -80,11 +80,11 @@ braced c w b e room deeper ls ts =
 -- a construct as an expression, by its kind
 construct : (c : Context) (w : Live) (t : Token) (k : Kind) (f : node.Statement) {s u : Point}
     → Comes (Sign t) here s → beginning (Sign t) ≡ begin.Construct k → may_be_value (inner c) k ≡ true
-    → Fit (R.Construct (level_up (level_up (inner c))) w here k) f (past code s) u → Ends c.filter u
+    → Fit (R.In (R.Construct here k) (level_up (level_up (inner c))) w) f (past code s) u → Ends c.filter u
     → Starts (unlimited c) w (Sign t)
 construct c w t k f {s = s} {u = u} n b may x e =
     by_primary c w (Sign t) (begin.Construct k) n b refl
-    (formed (F.chooses n (subst (λ v. FitIn (R.Primary (inner c) w) (P.primary_by (inner c) w v)
+    (formed (F.chooses n (subst (λ v. FitIn (R.In R.Primary (inner c) w) (P.primary_by (inner c) w v)
     (node.block_value (made_block f)) s u) (sym b)
     (F.either (may_be_value (inner c) k) _ may (F.this n (F.must refl (F.must refl (F.part x given))))))))
     refl e
@@ -95,14 +95,14 @@ deep c = level_up (level_up (inner c))
 
 guard : (c : Context) (w : Live) {s : Point} → may_raise c ≡ true → Comes (Sign token.True) here s
     → Ends c.filter (past code s) → Comes (Sign token.LeftBrace) here (past code s)
-    → Fit (R.Guard c w) (node.boolean true here) s (past code s)
+    → Fit (R.In R.Guard c w) (node.boolean true here) s (past code s)
 guard c w room n e brace =
     formed (F.if_not n refl (F.part (value_expression c w n room refl refl e)
     (F.checked refl (F.if_not brace refl given))))
 
 guard_last : (c : Context) (w : Live) {s : Point} → may_raise c ≡ true → Comes (Sign token.True) here s
     → Ends c.filter (past code s) → Comes (Sign token.EOF) here (past code s)
-    → Fit (R.Guard c w) (node.boolean true here) s (past code s)
+    → Fit (R.In R.Guard c w) (node.boolean true here) s (past code s)
 guard_last c w room n e end =
     formed (F.if_not n refl (F.part (value_expression c w n room refl refl e)
     (F.checked refl (F.if_not end refl given))))
@@ -196,7 +196,7 @@ interpolated c w a b e =
 
 -- a closure's body, which is an empty statement
 body : (c : Context) (w : Live) {ts : List Taken}
-    → Fit (R.ClosureBody c w) (node.noop here) (pt (Sign token.SemiColon ∷ []) ts)
+    → Fit (R.In R.ClosureBody c w) (node.noop here) (pt (Sign token.SemiColon ∷ []) ts)
     (pt [] (tk (Sign token.SemiColon) ts))
 body c w = formed (F.if_not (sign token.SemiColon refl) refl (F.part (formed (F.chooses (sign token.SemiColon refl)
     (F.this (sign token.SemiColon refl) given))) given))

@@ -18,12 +18,12 @@ use Rattle.rhai_grammar_laws.proofs.ChainsOfForms.{Made, Rooted, bracket, chain_
 use Rattle.rhai_grammar_laws.proofs.ChainsOfTokens.{chain_tokens, ungrouped_tokens}
 
 -- an index is not written as a member is
-apart : {c d : Context} {w v : Live} {i : Option Node} {x y : Node} (f : F.Form production (R.Index c w i) x)
-    (e : F.Form production (R.Member d v) y) → Alike production f e → ⊥
+apart : {c d : Context} {w v : Live} {i : Option Node} {x y : Node} (f : F.Form production (R.In (R.Index i) c w) x)
+    (e : F.Form production (R.In R.Member d v) y) → Alike production f e → ⊥
 apart (F.form (F.part x f rest)) (F.form (F.this l at e)) same = same
 
-apart_too : {c d : Context} {w v : Live} {i : Option Node} {x y : Node} (f : F.Form production (R.Member d v) y)
-    (e : F.Form production (R.Index c w i) x) → Alike production f e → ⊥
+apart_too : {c d : Context} {w v : Live} {i : Option Node} {x y : Node} (f : F.Form production (R.In R.Member d v) y)
+    (e : F.Form production (R.In (R.Index i) c w) x) → Alike production f e → ⊥
 apart_too (F.form (F.this l at f)) (F.form (F.part x e rest)) same = same
 
 -- links that are written alike are equal up to positions

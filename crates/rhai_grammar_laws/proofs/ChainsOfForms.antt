@@ -25,11 +25,11 @@ use Rattle.rhai_grammar_laws.proofs.ChainsOfLinks.{MayEnd, joined_all, may_end}
 pub data Made (c : Context) (w : Live) : List Piece → List Link → Type 0 where
   none : Made c w [] []
   bracket : (n : ℕ) (l : Lexeme) (at : Position) (i : Option Node) (x : Node)
-      (f : F.Form production (R.Index (at_level n c) w i) x) (ps : List Piece) (ls : List Link) → Made c w ps ls
-      → Made c w (token l ∷ piece (R.Index (at_level n c) w i) x f ∷ ps) (bracket_link l at x ∷ ls)
-  member : (n : ℕ) (l : Lexeme) (at : Position) (x : Node) (f : F.Form production (R.Member (at_level n c) w) x)
+      (f : F.Form production (R.In (R.Index i) (at_level n c) w) x) (ps : List Piece) (ls : List Link) → Made c w ps ls
+      → Made c w (token l ∷ piece (R.In (R.Index i) (at_level n c) w) x f ∷ ps) (bracket_link l at x ∷ ls)
+  member : (n : ℕ) (l : Lexeme) (at : Position) (x : Node) (f : F.Form production (R.In R.Member (at_level n c) w) x)
       (ps : List Piece) (ls : List Link) → Made c w ps ls
-      → Made c w (token l ∷ piece (R.Member (at_level n c) w) x f ∷ ps) (member_link l at x ∷ ls)
+      → Made c w (token l ∷ piece (R.In R.Member (at_level n c) w) x f ∷ ps) (member_link l at x ∷ ls)
 
 both_made : (c : Context) (w : Live) (ps qs : List Piece) (ls ms : List Link) → Made c w ps ls → Made c w qs ms
     → Made c w (ps ++ qs) (ls ++ ms)
@@ -91,11 +91,11 @@ links_add (suc k) c n m w i before ls (F.form (F.choose l at f)) le =
 
 -- the pieces of a chain's root and of its links
 pub data Rooted (c : Context) (w : Live) : WrittenChain → Type 0 where
-  rooted : (n : ℕ) (p y : Node) (primary : F.Form production (R.Primary (at_level n c) w) p)
-      (postfix : F.Form production (R.Postfix (at_level n c) w p) y) (ps : List Piece) (ls : List Link)
+  rooted : (n : ℕ) (p y : Node) (primary : F.Form production (R.In R.Primary (at_level n c) w) p)
+      (postfix : F.Form production (R.In (R.Postfix p) (at_level n c) w) y) (ps : List Piece) (ls : List Link)
       → Made c w ps ls → Rooted c w (record {
         chain = record { root = y; links = ls };
-        written = piece (R.Primary (at_level n c) w) p primary ∷ piece (R.Postfix (at_level n c) w p) y postfix ∷ ps;
+        written = piece (R.In R.Primary (at_level n c) w) p primary ∷ piece (R.In (R.Postfix p) (at_level n c) w) y postfix ∷ ps;
       })
 
 -- a tree is that of a written chain, of which any link may be last
@@ -108,7 +108,7 @@ pub the_same : {A : Type 0} {x y : A} → Some x ≡ Some y → x ≡ y
 the_same {x = x} e = ap (λ o. unwrap_or o x) e
 
 chain_by_is : (v : Beginning) (c : Context) (n : ℕ) (w : Live) (a : Node)
-    (f : F.Filled production (R.Operand (at_level n c) w) (P.operand_by (at_level n c) w v) a) (x : WrittenChain)
+    (f : F.Filled production (R.In R.Operand (at_level n c) w) (P.operand_by (at_level n c) w v) a) (x : WrittenChain)
     → chain_by v f ≡ Some x → IsOf c w a x
 chain_by_is begin.Sign c n w a f x h = absurd cc
 chain_by_is _ c n w a (F.part p fp (F.part y fy (F.part ls fl (F.checked F.given)))) x h =
@@ -119,38 +119,38 @@ chain_by_is _ c n w a (F.part p fp (F.part y fy (F.part ls fl (F.checked F.given
       rooted = rooted n p y fp fy (pieces fl) ls (subst (Made c w (pieces fl)) (sym made.1) made.2);
     })
 
-pub chain_is : (c : Context) (n : ℕ) (w : Live) (a : Node) (f : F.Form production (R.Operand (at_level n c) w) a)
+pub chain_is : (c : Context) (n : ℕ) (w : Live) (a : Node) (f : F.Form production (R.In R.Operand (at_level n c) w) a)
     (x : WrittenChain) → chain_in f ≡ Some x → IsOf c w a x
 chain_is c n w a (F.form (F.choose l at f)) x h = chain_by_is (beginning l) c n w a f x h
 
 -- an operand that no operator follows is the whole
 pub not_operated : {c : Context} {w : Live} {at : Position} {parent : ℕ} {lhs a : Node}
-    (f : F.Form production (R.BinaryOp c w at parent lhs) a) (o : Option WrittenChain) (x : WrittenChain)
+    (f : F.Form production (R.In (R.BinaryOp at parent lhs) c w) a) (o : Option WrittenChain) (x : WrittenChain)
     → unless_operated f o ≡ Some x → (o ≡ Some x) × (a ≡ lhs)
 not_operated (F.form (F.part None g F.given)) o x h = (h, refl)
 not_operated (F.form (F.part (Some op) g f)) o x h = absurd cc
 
 -- so is a primary that nothing calls
-pub not_called : {c : Context} {w : Live} {p a : Node} (f : F.Form production (R.Postfix c w p) a)
+pub not_called : {c : Context} {w : Live} {p a : Node} (f : F.Form production (R.In (R.Postfix p) c w) a)
     (o : Option WrittenChain) (x : WrittenChain) → unless_called f o ≡ Some x → (o ≡ Some x) × (a ≡ p)
 not_called (F.form (F.if_not (F.if_not F.given))) o x h = (h, refl)
 not_called (F.form (F.if_not (F.if_so f))) o x h = absurd cc
 not_called (F.form (F.if_so f)) o x h = absurd cc
 
-alone_is : (c : Context) (n : ℕ) (w : Live) (a : Node) (f : F.Form production (R.Expression (at_level n c) w) a)
+alone_is : (c : Context) (n : ℕ) (w : Live) (a : Node) (f : F.Form production (R.In R.Expression (at_level n c) w) a)
     (x : WrittenChain) → chain_alone f ≡ Some x → IsOf c w a x
 alone_is c n w a (F.form (F.here l at (F.must (F.part y fy (F.part z fz F.given))))) x h =
     let r = not_operated fz (chain_in fy) x h in
     subst (λ b. IsOf c w b x) (sym r.1) (chain_is c (one_more n) w y fy x r.0)
 
 group_by_is : (v : Beginning) (c : Context) (n : ℕ) (w : Live) (a : Node)
-    (f : F.Filled production (R.Primary (at_level n c) w) (P.primary_by (at_level n c) w v) a) (x : WrittenChain)
+    (f : F.Filled production (R.In R.Primary (at_level n c) w) (P.primary_by (at_level n c) w v) a) (x : WrittenChain)
     → group_by v f ≡ Some x → IsOf c w a x
 group_by_is begin.Group c n w a (F.this l at (F.must (F.part z fz (F.take m p F.given)))) x h =
     alone_is c (one_more n) w a fz x h
 group_by_is _ c n w a f x h = absurd cc
 
-group_is : (c : Context) (n : ℕ) (w : Live) (a : Node) (f : F.Form production (R.Primary (at_level n c) w) a)
+group_is : (c : Context) (n : ℕ) (w : Live) (a : Node) (f : F.Form production (R.In R.Primary (at_level n c) w) a)
     (x : WrittenChain) → group_in f ≡ Some x → IsOf c w a x
 group_is c n w a (F.form (F.choose l at f)) x h = group_by_is (beginning l) c n w a f x h
 
@@ -177,7 +177,7 @@ more_rooted c w _ ms qs (rooted n p y fp fy ps ls a) b =
     rooted n p y fp fy (ps ++ qs) (ls ++ ms) (both_made c w ps qs ls ms a b)
 
 ungrouped_by_is : (v : Beginning) (c : Context) (n : ℕ) (w : Live) (a : Node)
-    (f : F.Filled production (R.Operand (at_level n c) w) (P.operand_by (at_level n c) w v) a) (x : WrittenChain)
+    (f : F.Filled production (R.In R.Operand (at_level n c) w) (P.operand_by (at_level n c) w v) a) (x : WrittenChain)
     → ungrouped_by v f ≡ Some x → IsOf c w a x
 ungrouped_by_is begin.Sign c n w a f x h = absurd cc
 ungrouped_by_is _ c n w a (F.part p fp (F.part y fy (F.part ls fl (F.checked F.given)))) x h =
@@ -191,6 +191,6 @@ ungrouped_by_is _ c n w a (F.part p fp (F.part y fy (F.part ls fl (F.checked F.g
       rooted = more_rooted c w o.0 ls (pieces fl) g.rooted (subst (Made c w (pieces fl)) (sym made.1) made.2);
     })
 
-pub ungrouped_is : (c : Context) (n : ℕ) (w : Live) (a : Node) (f : F.Form production (R.Operand (at_level n c) w) a)
+pub ungrouped_is : (c : Context) (n : ℕ) (w : Live) (a : Node) (f : F.Form production (R.In R.Operand (at_level n c) w) a)
     (x : WrittenChain) → ungrouped f ≡ Some x → IsOf c w a x
 ungrouped_is c n w a (F.form (F.choose l at f)) x h = ungrouped_by_is (beginning l) c n w a f x h

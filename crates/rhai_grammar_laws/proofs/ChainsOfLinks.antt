@@ -103,7 +103,7 @@ joined_all x (l ∷ ls) b hs = joined_more x [] l ls b hs.0 hs.1
 
 abbrev LinksRight : (g : Goal) → Val g → Type 0
 LinksRight (R.Links w spot) ls = MayEnd spot.before → MayEnd ls
-LinksRight (R.Member c w) x = (chain_of x).links ≡ []
+LinksRight (R.In R.Member c w) x = (chain_of x).links ≡ []
 LinksRight _ x = Unit {0}
 
 link_added : (ls : List Link) (l : Link) → MayEnd ls → MayBeLast l → MayEnd (ls ++ l ∷ [])
@@ -129,7 +129,7 @@ links w spot lk.Nothing = λ before. before
 
 table : (g : Goal) → Always LinksRight (LinksRight g) (production g)
 table (R.Links w spot) = λ v. links w spot v
-table (R.Member c w) = λ name at. (
+table (R.In R.Member c w) = λ name at. (
   λ call u. refl,
   by_either (λ x. (chain_of x).links ≡ []) (is_name name) _ _ (
     tt,

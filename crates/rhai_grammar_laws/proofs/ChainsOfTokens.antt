@@ -26,7 +26,7 @@ in_three a b c =
     ∙ ap (λ z. lexemes a ++ z) (lexemes_append b c)
 
 chain_by_tokens : (v : Beginning) {c : Context} {w : Live} {a : Node}
-    (f : F.Filled production (R.Operand c w) (P.operand_by c w v) a) (x : WrittenChain) → chain_by v f ≡ Some x
+    (f : F.Filled production (R.In R.Operand c w) (P.operand_by c w v) a) (x : WrittenChain) → chain_by v f ≡ Some x
     → lexemes (spelling_in production f) ≡ of_pieces x.written
 chain_by_tokens begin.Sign f x h = absurd cc
 chain_by_tokens _ (F.part p fp (F.part y fy (F.part ls fl (F.checked F.given)))) x h =
@@ -34,7 +34,7 @@ chain_by_tokens _ (F.part p fp (F.part y fy (F.part ls fl (F.checked F.given))))
     ∙ ap (λ z. lexemes (spelling production fp) ++ (lexemes (spelling production fy) ++ z)) (tokens_of fl)
     ∙ ap (λ (z : WrittenChain). of_pieces z.written) (the_same h)
 
-pub chain_tokens : {c : Context} {w : Live} {a : Node} (f : F.Form production (R.Operand c w) a) (x : WrittenChain)
+pub chain_tokens : {c : Context} {w : Live} {a : Node} (f : F.Form production (R.In R.Operand c w) a) (x : WrittenChain)
     → chain_in f ≡ Some x → lexemes (spelling production f) ≡ of_pieces x.written
 chain_tokens (F.form (F.choose l at f)) x h = chain_by_tokens (beginning l) f x h
 
@@ -51,19 +51,19 @@ next_tokens {filter = filter} (F.form (F.choose l at f)) = looked_at (follower_o
 
 -- where no operator follows, no token is taken
 no_run_tokens : {c : Context} {w : Live} {at : Position} {parent : ℕ} {lhs a : Node}
-    (f : F.Form production (R.BinaryOp c w at parent lhs) a) (o : Option WrittenChain) (x : WrittenChain)
+    (f : F.Form production (R.In (R.BinaryOp at parent lhs) c w) a) (o : Option WrittenChain) (x : WrittenChain)
     → unless_operated f o ≡ Some x → spelling production f ≡ []
 no_run_tokens (F.form (F.part None g F.given)) o x h = ap (λ z. z ++ []) (next_tokens g)
 no_run_tokens (F.form (F.part (Some op) g f)) o x h = absurd cc
 
 -- nor where nothing calls a primary
-no_call_tokens : {c : Context} {w : Live} {p a : Node} (f : F.Form production (R.Postfix c w p) a)
+no_call_tokens : {c : Context} {w : Live} {p a : Node} (f : F.Form production (R.In (R.Postfix p) c w) a)
     (o : Option WrittenChain) (x : WrittenChain) → unless_called f o ≡ Some x → spelling production f ≡ []
 no_call_tokens (F.form (F.if_not (F.if_not F.given))) o x h = refl
 no_call_tokens (F.form (F.if_not (F.if_so f))) o x h = absurd cc
 no_call_tokens (F.form (F.if_so f)) o x h = absurd cc
 
-alone_tokens : {c : Context} {w : Live} {a : Node} (f : F.Form production (R.Expression c w) a) (x : WrittenChain)
+alone_tokens : {c : Context} {w : Live} {a : Node} (f : F.Form production (R.In R.Expression c w) a) (x : WrittenChain)
     → chain_alone f ≡ Some x → lexemes (spelling production f) ≡ of_pieces x.written
 alone_tokens (F.form (F.here l at (F.must (F.part y fy (F.part z fz F.given))))) x h =
     ap (λ z. lexemes (spelling production fy ++ (z ++ []))) (no_run_tokens fz (chain_in fy) x h)
@@ -76,7 +76,7 @@ record InTwo (of_chain all : List Lexeme) : Type 0 where
   all_is : all ≡ opening ∷ (of_chain ++ (closing ∷ []))
 
 group_by_tokens : (v : Beginning) {c : Context} {w : Live} {a : Node}
-    (f : F.Filled production (R.Primary c w) (P.primary_by c w v) a) (x : WrittenChain) → group_by v f ≡ Some x
+    (f : F.Filled production (R.In R.Primary c w) (P.primary_by c w v) a) (x : WrittenChain) → group_by v f ≡ Some x
     → InTwo (of_pieces x.written) (lexemes (spelling_in production f))
 group_by_tokens begin.Group (F.this l at (F.must (F.part z fz (F.take m p F.given)))) x h = record {
   opening = l;
@@ -86,7 +86,7 @@ group_by_tokens begin.Group (F.this l at (F.must (F.part z fz (F.take m p F.give
 }
 group_by_tokens _ f x h = absurd cc
 
-group_tokens : {c : Context} {w : Live} {a : Node} (f : F.Form production (R.Primary c w) a) (x : WrittenChain)
+group_tokens : {c : Context} {w : Live} {a : Node} (f : F.Form production (R.In R.Primary c w) a) (x : WrittenChain)
     → group_in f ≡ Some x → InTwo (of_pieces x.written) (lexemes (spelling production f))
 group_tokens (F.form (F.choose l at f)) x h = group_by_tokens (beginning l) f x h
 
@@ -98,7 +98,7 @@ grouped_tokens a b c xs more empty is g =
     ∙ ap (λ z. z ++ more) g.all_is ∙ ap (λ z. g.opening ∷ z) (append_assoc xs (g.closing ∷ []) more)
 
 ungrouped_by_tokens : (v : Beginning) {c : Context} {w : Live} {a : Node}
-    (f : F.Filled production (R.Operand c w) (P.operand_by c w v) a) (x : WrittenChain) → ungrouped_by v f ≡ Some x
+    (f : F.Filled production (R.In R.Operand c w) (P.operand_by c w v) a) (x : WrittenChain) → ungrouped_by v f ≡ Some x
     → HasTwoMore (of_pieces x.written) (lexemes (spelling_in production f))
 ungrouped_by_tokens begin.Sign f x h = absurd cc
 ungrouped_by_tokens _ (F.part p fp (F.part y fy (F.part ls fl (F.checked F.given)))) x h =
@@ -115,6 +115,6 @@ ungrouped_by_tokens _ (F.part p fp (F.part y fy (F.part ls fl (F.checked F.given
           ∙ pieces_append o.0.written (pieces fl);
     }
 
-pub ungrouped_tokens : {c : Context} {w : Live} {a : Node} (f : F.Form production (R.Operand c w) a) (x : WrittenChain)
+pub ungrouped_tokens : {c : Context} {w : Live} {a : Node} (f : F.Form production (R.In R.Operand c w) a) (x : WrittenChain)
     → ungrouped f ≡ Some x → HasTwoMore (of_pieces x.written) (lexemes (spelling production f))
 ungrouped_tokens (F.form (F.choose l at f)) x h = ungrouped_by_tokens (beginning l) f x h

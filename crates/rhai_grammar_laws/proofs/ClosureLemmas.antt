@@ -21,7 +21,7 @@ use Rattle.rhai_grammar.specs.Uses.{with_use}
 use Rattle.rhai_grammar.specs.declared.role.Bars.{Bars}
 use Rattle.rhai_grammar.specs.declared.role.Bars.TheVariants as bars
 use Rattle.rhai_grammar.proofs.SlotLemmas.{same}
-use Rattle.rhai_grammar_reading.specs.Reading.{Closure, Goal, Val}
+use Rattle.rhai_grammar_reading.specs.Reading.{In, Closure, Goal, Val}
 use Rattle.rhai_grammar.specs.Rules.{production}
 use Rattle.rhai_grammar.specs.Rules as P
 use Rattle.rhai_grammar.specs.Productions.{Production, adds, give, knows}
@@ -178,7 +178,7 @@ record Made (w : Live) (at : Position) (x : Node) (p : ClosureParts) (ended : Li
   last : ended ≡ before ++ p.ended ∷ []
 
 made_of : {c : Context} {w : Live} {at : Position} {by : Bars} {x : Node} (own : List Text)
-    (f : D.Filled production (Closure c w at by) (P.closure_of c w at own) x)
+    (f : D.Filled production (In (Closure at by) c w) (P.closure_of c w at own) x)
     → Made w at x (Z.closure_of own f) (ended_in (F.events_in production f))
 made_of {c = c} {w = w} own (D.must (D.apart v us n body rest)) = record {
   captured = us;
@@ -192,7 +192,7 @@ made_of {c = c} {w = w} own (D.must (D.apart v us n body rest)) = record {
 }
 
 made_by : {c : Context} {w : Live} {at : Position} {b : Bars} {x : Node} (by : Bars)
-    (f : D.Filled production (Closure c w at b) (P.closure_by c w at by) x)
+    (f : D.Filled production (In (Closure at b) c w) (P.closure_by c w at by) x)
     → Made w at x (Z.closure_by by f) (ended_in (F.events_in production f))
 made_by bars.Pair f = made_of [] f
 made_by bars.List (D.part own list f) =
@@ -209,7 +209,7 @@ made_by bars.List (D.part own list f) =
           ∙ sym (append_assoc ends r.before _);
     }
 
-made : {c : Context} {w : Live} {at : Position} {by : Bars} {x : Node} (f : D.Form production (Closure c w at by) x)
+made : {c : Context} {w : Live} {at : Position} {by : Bars} {x : Node} (f : D.Form production (In (Closure at by) c w) x)
     → Made w at x (closure_parts f) (ended_in (F.events production f))
 made {by = by} (D.form (D.knows f)) = made_by by f
 
@@ -289,7 +289,7 @@ once {g = g} {x = x} f s t us m e =
     (more_uses [] (F.free_uses (F.events production f) s.library) tt)
 
 fits_of : {c : Context} {w : Live} {at : Position} {by : Bars} {x : Node} (own : List Text)
-    (f : D.Filled production (Closure c w at by) (P.closure_of c w at own) x) (s t : Point)
+    (f : D.Filled production (In (Closure at by) c w) (P.closure_of c w at own) x) (s t : Point)
     → Met (D.demanded production f Nothing) s t → Fits c w (Z.closure_of own f) t
 fits_of {c = c} {w = w} own (D.must (D.apart v us n body rest)) s t m = record {
   distinct = once body s m.1.0 us m.1.1 m.1.2.1;
@@ -297,14 +297,14 @@ fits_of {c = c} {w = w} own (D.must (D.apart v us n body rest)) s t m = record {
 }
 
 fits_by : {c : Context} {w : Live} {at : Position} {b : Bars} {x : Node} (by : Bars)
-    (f : D.Filled production (Closure c w at b) (P.closure_by c w at by) x) (s t : Point)
+    (f : D.Filled production (In (Closure at b) c w) (P.closure_by c w at by) x) (s t : Point)
     → Met (D.demanded production f Nothing) s t → Fits c w (Z.closure_by by f) t
 fits_by bars.Pair f s t m = fits_of [] f s t m
 fits_by bars.List (D.part own list f) s t m =
     let r = passes production list (D.demanded production f Nothing) s t m in
     fits_of own f r.end t r.met
 
-fits : {c : Context} {w : Live} {at : Position} {by : Bars} {x : Node} (f : D.Form production (Closure c w at by) x)
+fits : {c : Context} {w : Live} {at : Position} {by : Bars} {x : Node} (f : D.Form production (In (Closure at by) c w) x)
     (s t : Point) → Met (D.demands production f Nothing) s t → Fits c w (closure_parts f) t
 fits {by = by} (D.form (D.knows f)) s t m = fits_by by f s t m.1
 

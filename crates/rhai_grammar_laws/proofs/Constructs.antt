@@ -82,7 +82,7 @@ module _ (limit : ℕ) where
 
 -- they keep the names that are used
 pub uses_of_construct : (c : Context) (w : Live) (at : Position) (k : Kind) (n : Lexeme)
-    → used.KeepsIn (R.Construct c w at k) (λ f us. Only (statement_mentions f) us) (P.construct c w at k) n [] []
+    → used.KeepsIn (R.In (R.Construct at k) c w) (λ f us. Only (statement_mentions f) us) (P.construct c w at k) n [] []
 unfolding mentions
 uses_of_construct c w at kind.Block n = λ b m us h. h
 uses_of_construct c w at kind.If n = λ f m us h. h

@@ -7,7 +7,7 @@ use Rattle.rhai_grammar.specs.Prelude.{StandsAtLast}
 use Rattle.rhai_grammar.specs.declared.error.ParseErrorType.{ParseErrorType}
 use Rattle.rhai_grammar.specs.declared.error.ParseErrorType.TheVariants as error
 use Rattle.rhai_grammar_reading.specs.Histories.{State, Outcome}
-use Rattle.rhai_grammar_reading.specs.Reading.{Goal, Val, Whole, Script}
+use Rattle.rhai_grammar_reading.specs.Reading.{In, Goal, Val, Whole, Script}
 use Rattle.rhai_grammar_reading.proofs.Entries.{Entry, runs_once}
 use Rattle.rhai_grammar_reading.proofs.Joins.{cursor}
 use Rattle.rhai_grammar_reading.proofs.Reaches.{reached_end}
@@ -66,6 +66,6 @@ promised g E s left (Err e) mode captured gives =
 
 pub entries_are_promised : EntriesArePromised
 entries_are_promised = record {
-  expression = λ c w. promised (Whole c w) (expression_entry c w);
+  expression = λ c w. promised (In Whole c w) (expression_entry c w);
   script = λ c w. promised (Script c w) (script_entry c w);
 }

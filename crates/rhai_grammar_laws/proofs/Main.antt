@@ -7,7 +7,7 @@ use Rattle.rhai_grammar.specs.Promises.{Returns}
 use Rattle.rhai_grammar.specs.Causes.{refusal_of, is_for_memory}
 use Rattle.rhai_grammar.specs.declared.error.ParseError.{ParseError}
 use Rattle.rhai_grammar.specs.Demands.{Nothing}
-use Rattle.rhai_grammar_reading.specs.Reading.{Goal, Val, Script, Whole, body}
+use Rattle.rhai_grammar_reading.specs.Reading.{In, Goal, Val, Script, Whole, body}
 use Rattle.rhai_grammar_reading.specs.Running as R
 use Rattle.rhai_grammar_reading.specs.Running.{Progress, result_of}
 use Rattle.rhai_grammar_reading.specs.Histories.{State, next_item, Outcome, Done, Refused, Unfinished, exec, calls}
@@ -100,9 +100,9 @@ derived_entry g looks = record {
   looks = looks;
 }
 
-pub expression_entry : (c : Context) (live : Live) → Entry (Whole c live) (written (Whole c live))
-    (unwritten (Whole c live)) (tree_of (Whole c live))
-expression_entry c live = derived_entry (Whole c live) (E.whole_looks c live)
+pub expression_entry : (c : Context) (live : Live) → Entry (In Whole c live) (written (In Whole c live))
+    (unwritten (In Whole c live)) (tree_of (In Whole c live))
+expression_entry c live = derived_entry (In Whole c live) (E.whole_looks c live)
 
 pub script_entry : (c : Context) (live : Live) → Entry (Script c live) (written (Script c live))
     (unwritten (Script c live)) (tree_of (Script c live))

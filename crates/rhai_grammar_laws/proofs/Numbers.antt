@@ -33,12 +33,12 @@ abbrev Table : Goal → Type 0
 Table g = (n : Lexeme) → Keeps NumberedRight IsWellNumberedFunction (λ x next. NumberedRight g x n next) (production g) n
 
 pub table : (g : Goal) (n : Lexeme) → Keeps NumberedRight IsWellNumberedFunction (λ x next. NumberedRight g x n next) (production g) n
-table (R.Whole c w) n = λ x m h. (λ e. h, λ e. tt)
-table (R.Expression c w) n = λ at room x m h y o k. k h
-table (R.Operand c w) n = λ v e. operand c w v n
-table (R.RightOperand c w place) n = λ v e. right c w v n
-table (R.Primary c w) n = λ v e. primary c w v n
-table (R.Called c w at q) n = λ v e. called c w at q v n
+table (R.In R.Whole c w) n = λ x m h. (λ e. h, λ e. tt)
+table (R.In R.Expression c w) n = λ at room x m h y o k. k h
+table (R.In R.Operand c w) n = λ v e. operand c w v n
+table (R.In (R.RightOperand place) c w) n = λ v e. right c w v n
+table (R.In R.Primary c w) n = λ v e. primary c w v n
+table (R.In (R.Called at q) c w) n = λ v e. called c w at q v n
 table (R.Path w x) n = λ at m is p o. (
   λ e y q h v. h (variable_still w.imports x (text_of m) p v),
   λ e v. with_path (names w) w.imports x (text_of m) p v,
@@ -49,69 +49,69 @@ table (R.Path w x) n = λ at m is p o. (
     variable_still imports (node.variable v q) t p e = refl
     variable_still imports _ t p e = absurd cc
 table (R.Links w spot) n = λ v e. links w spot v n
-table (R.Index c w indexed) n = λ x m h fault is p o. h
-table (R.Member c w) n = λ at m. (
+table (R.In (R.Index indexed) c w) n = λ x m h fault is p o. h
+table (R.In R.Member c w) n = λ at m. (
   λ e call o h. h,
   λ e. by_either (λ x next. WellNumbered (names w) x) (is_name n) _ _ m
       (λ q. tt, λ q. tt) (λ e. absurd cc),
 )
-table (R.Postfix c w x) n = (
+table (R.In (R.Postfix x) c w) n = (
   λ e y m h. call_path (UnlessCalled (names w) x n) c w y m (h (is_true_of (is_variable x) (qualifies n) e)),
   λ e. call_of c w x n e,
 )
-table (R.Arguments c w at) n = (λ e. tt, λ e. (λ is p m. tt, λ is room xs m h. h tt))
-table (R.Items c w before) n = λ x m h v e.
+table (R.In (R.Arguments at) c w) n = (λ e. tt, λ e. (λ is p m. tt, λ is room xs m h. h tt))
+table (R.In (R.Items before) c w) n = λ x m h v e.
     parted (λ xs. AllWellNumbered (names w) before → AllWellNumbered (names w) xs) lists.Arguments _ _ v m
     (λ o. (λ is p q b. one_node (names w) before x b h, λ is xs q k b. k (one_node (names w) before x b h)))
     (λ o b. one_node (names w) before x b h)
-table (R.Elements c w opening before) n = λ v e. element c w opening before v n
-table (R.Fields c w opening before) n = λ v m u. field c w opening before v m
-table (R.Segments c w opening before) n = λ p m u room fs o h t q v.
+table (R.In (R.Elements opening before) c w) n = λ v e. element c w opening before v n
+table (R.In (R.Fields opening before) c w) n = λ v m u. field c w opening before v m
+table (R.In (R.Segments opening before) c w) n = λ p m u room fs o h t q v.
     by_either (λ xs next. AllWellNumbered (names w) before → AllWellNumbered (names w) xs) t.2 _ _ q
     (λ b. one_text (names w) _ t.1 t.3 (one_node (names w) before (block_value (braces fs p t.0)) b h))
     (λ xs r k b. k (one_text (names w) _ t.1 t.3 (one_node (names w) before (block_value (braces fs p t.0)) b h)))
 table R.TextAfter n = λ closing l at m. tt
-table (R.Jump c w at) n = (λ e room x m h. h, λ e room. tt)
+table (R.In (R.Jump at) c w) n = (λ e room x m h. h, λ e room. tt)
 table (R.NextKey c before) n = λ v e. key c before v n
 table (R.NextOperator filter) n = λ v e. follower v n
-table (R.BinaryOp c w at parent lhs) n = λ v m u. binary c w at parent lhs v m
-table (R.ExprStatement c w) n = λ x m h. (λ e at o y q k fault. ((h, k), refl), λ e. (h, refl))
-table (R.VarName c w) n = (λ e at m ok. tt, λ e. tt)
-table (R.Initializer c w at) n = (λ e p m room x o h. h, λ e. tt)
-table (R.Definition c w at k e) n = λ name m u x o h. definition k e at name.0 x w h
-table (R.Import c w at) n = λ x m h other o u. (h, refl)
-table (R.Export c w at) n = λ v e. export c w at v n
+table (R.In (R.BinaryOp at parent lhs) c w) n = λ v m u. binary c w at parent lhs v m
+table (R.In R.ExprStatement c w) n = λ x m h. (λ e at o y q k fault. ((h, k), refl), λ e. (h, refl))
+table (R.In R.VarName c w) n = (λ e at m ok. tt, λ e. tt)
+table (R.In (R.Initializer at) c w) n = (λ e p m room x o h. h, λ e. tt)
+table (R.In (R.Definition at k e) c w) n = λ name m u x o h. definition k e at name.0 x w h
+table (R.In (R.Import at) c w) n = λ x m h other o u. (h, refl)
+table (R.In (R.Export at) c w) n = λ v e. export c w at v n
 table R.Alias n = (λ e at m is p o. tt, λ e. tt)
-table (R.Statement c w) n = λ v e. statement c w v n
-table (R.Statements closing c w before) n = λ v e. statements closing c w before v n
+table (R.In R.Statement c w) n = λ v e. statement c w v n
+table (R.In (R.Statements closing before) c w) n = λ v e. statements closing c w before v n
 table R.BlockStart n = λ is at m. tt
-table (R.Inside c w) n = inside c w (has_single_blocks c) n
-table (R.Block c w at) n = λ fs m h b o k. k (names w) h
+table (R.In R.Inside c w) n = inside c w (has_single_blocks c) n
+table (R.In (R.Block at) c w) n = λ fs m h b o k. k (names w) h
 table (R.BlockEnd at fs) n = λ is p m ns h. h
-table (R.Construct c w at kind) n = numbers_of_construct c w at kind n
-table (R.Braced c w at) n = λ p m u room b o h. h
-table (R.Guard c w) n = (λ e. tt, λ e x m h fault. (λ a. tt, λ a. h))
-table (R.Iterated c w) n = (λ e. tt, λ e x m h fault. h)
-table (R.Conditional c w at) n = λ x m h b o k e q j. ((h, k, j), refl)
-table (R.Branch c w at) n = (λ e p m. (λ is q o room f r h. N.made (names w) f h.0, λ is b o h. h), λ e. tt)
+table (R.In (R.Construct at kind) c w) n = numbers_of_construct c w at kind n
+table (R.In (R.Braced at) c w) n = λ p m u room b o h. h
+table (R.In R.Guard c w) n = (λ e. tt, λ e x m h fault. (λ a. tt, λ a. h))
+table (R.In R.Iterated c w) n = (λ e. tt, λ e x m h fault. h)
+table (R.In (R.Conditional at) c w) n = λ x m h b o k e q j. ((h, k, j), refl)
+table (R.In (R.Branch at) c w) n = (λ e p m. (λ is q o room f r h. N.made (names w) f h.0, λ is b o h. h), λ e. tt)
 table R.LoopNames n = (λ e at m is p o c q r j k s ok a b d f g i. tt, λ e is at m c p o. tt)
 table R.Catch n = λ is at m. (λ e p o j q r k u v. tt, λ e. tt)
 table R.DoEnd n = λ v e. do_end_kept v n
-table (R.Arms c w before) n = λ v e. arms c w before v n
-table (R.Arm c w before) n = λ xs m h guard o k is p q does r j fault u v z. (h tt, k, j)
-table (R.DefaultArm c w default) n = (λ e. tt, λ e is p m x o h u q a v r b. h)
-table (R.Cases c w before) n = λ x m h. (
+table (R.In (R.Arms before) c w) n = λ v e. arms c w before v n
+table (R.In (R.Arm before) c w) n = λ xs m h guard o k is p q does r j fault u v z. (h tt, k, j)
+table (R.In (R.DefaultArm default) c w) n = (λ e. tt, λ e is p m x o h u q a v r b. h)
+table (R.In (R.Cases before) c w) n = λ x m h. (
   λ e p o xs q k b. k (one_node (names w) before x b h),
   λ e b.
       one_node (names w) before x b h,
 )
-table (R.Case c w) n = λ x m h. h
-table (R.CaseGuard c w) n = (λ e p m x o h. h, λ e. tt)
-table (R.Action c w) n = action c w (has_single_blocks c) n
+table (R.In R.Case c w) n = λ x m h. h
+table (R.In R.CaseGuard c w) n = (λ e p m x o h. h, λ e. tt)
+table (R.In R.Action c w) n = action c w (has_single_blocks c) n
 table (R.ArmEnd itself) n = λ v e. arm_end itself v n
 table (R.DefaultEnd default) n = λ v e. default_end default v n
 table (R.Comments before) n = (λ e p m r o u. tt, λ e. tt)
-table (R.FunctionStatement c w comments p at is_private) n = λ ok room f m h.
+table (R.In (R.FunctionStatement comments p at is_private) c w) n = λ ok room f m h.
     (record { captured = []; own = f.function.parameters; is = h; none = λ e. refl }, (tt, refl))
 table (R.Function c comments at is_private) n = λ head m u ns o v. (
   λ e p q room b r h. function comments is_private head.0 head.1 ns b h,
@@ -124,8 +124,8 @@ table R.FunctionHead n = λ is at m. (
 )
 table (R.ParameterList f) n = λ v e. parameters f v n
 table (R.Parameters parts f before) n = λ v e. parameter parts f before v n
-table (R.Closure c w at by) n = closure_by c w at by n
-table (R.ClosureBody c w) n = (λ e at. tt, λ e f m h. h.0)
+table (R.In (R.Closure at by) c w) n = closure_by c w at by n
+table (R.In R.ClosureBody c w) n = (λ e at. tt, λ e f m h. h.0)
 
 more : (l : Library) (x : Ended) → IsWellNumberedFunction x → WellNumberedLibrary l → WellNumberedLibrary
     (with_ended l x)
@@ -145,14 +145,14 @@ IsRight p = WellNumberedFunction p.captured p.own p.ended
 
 -- the body of a closure, by the names of its parameters
 closure_of_right : {c : Context} {w : Live} {at : Position} {by : Bars} {x : Node} (own : List Text)
-    (f : D.Filled production (R.Closure c w at by) (P.closure_of c w at own) x) (k : Demands) (s t : Point)
+    (f : D.Filled production (R.In (R.Closure at by) c w) (P.closure_of c w at own) x) (k : Demands) (s t : Point)
     → Met (D.demanded production f k) s t → IsRight (Z.closure_of own f)
 closure_of_right own (D.must (D.apart v us n body rest)) k s t m =
     closure_body n us own v (holds body (apart s) m.1.0 m.1.1).0
 
 -- without parameters, or with those that a list has
 closure_by_right : {c : Context} {w : Live} {at : Position} {b : Bars} {x : Node} (by : Bars)
-    (f : D.Filled production (R.Closure c w at b) (P.closure_by c w at by) x) (k : Demands) (s t : Point)
+    (f : D.Filled production (R.In (R.Closure at b) c w) (P.closure_by c w at by) x) (k : Demands) (s t : Point)
     → Met (D.demanded production f k) s t → IsRight (Z.closure_by by f)
 closure_by_right bars.Pair f k s t m = closure_of_right [] f k s t m
 closure_by_right bars.List (D.part own list f) k s t m =
@@ -162,7 +162,7 @@ closure_by_right bars.List (D.part own list f) k s t m =
     closure_of_right own f k r.end t r.met
 
 closure_right : {c : Context} {w : Live} {at : Position} {by : Bars} {x : Node}
-    (f : D.Form production (R.Closure c w at by) x) (s t : Point) → Met (D.demands production f Nothing) s t
+    (f : D.Form production (R.In (R.Closure at by) c w) x) (s t : Point) → Met (D.demands production f Nothing) s t
     → IsRight (Z.closure_parts f)
 closure_right {by = by} (D.form (D.knows f)) s t m = closure_by_right by f Nothing s t m.1
 

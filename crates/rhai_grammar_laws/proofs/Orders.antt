@@ -15,7 +15,7 @@ use Rattle.rhai_grammar.proofs.LibraryLemmas.{key_is_new}
 use Rattle.rhai_grammar.proofs.EventEnds.{no_closure}
 use Rattle.rhai_grammar.proofs.SparedFaults as D
 use Rattle.rhai_grammar_reading.specs.Reading as R
-use Rattle.rhai_grammar_reading.specs.Reading.{Goal, Val}
+use Rattle.rhai_grammar_reading.specs.Reading.{In, Goal, Val}
 use Rattle.rhai_grammar.specs.Productions.{give}
 use Rattle.rhai_grammar.specs.Rules as P
 use Rattle.rhai_grammar.specs.Rules.{production}
@@ -44,15 +44,15 @@ module _ (limit : ℕ) where
 
   pub table : (g : Goal) (b : ℕ) (l : Library) → Begun limit b g → KeptWithin limit b l
       → OrdersAs limit (λ x. OrdersRight g x) b (production g) l
-  table (R.Whole c w) b l i o = (b, o, i, λ x m r o. ((tt, o), unexpected_spared))
-  table (R.Expression c w) b l i o = λ at. (λ e. refl, λ s. (b, o, i, λ x m r o. (b, o, i, λ x m r o. (tt, o))))
-  table (R.Operand c w) b l i o = λ v n e. operand limit c w v b l i o
-  table (R.RightOperand c w place) b l i o = λ v n e. right limit c w v b l i o
-  table (R.Primary c w) b l i o = λ v n e. primary limit c w v b l i o
-  table (R.Called c w name q) b l i o = λ v n e. called limit c w name q v b l i o
+  table (R.In R.Whole c w) b l i o = (b, o, i, λ x m r o. ((tt, o), unexpected_spared))
+  table (R.In R.Expression c w) b l i o = λ at. (λ e. refl, λ s. (b, o, i, λ x m r o. (b, o, i, λ x m r o. (tt, o))))
+  table (R.In R.Operand c w) b l i o = λ v n e. operand limit c w v b l i o
+  table (R.In (R.RightOperand place) c w) b l i o = λ v n e. right limit c w v b l i o
+  table (R.In R.Primary c w) b l i o = λ v n e. primary limit c w v b l i o
+  table (R.In (R.Called name q) c w) b l i o = λ v n e. called limit c w name q v b l i o
   table (R.Path w x) b l i o = λ n at. (no_variable, λ n p. ((b, o, tt, λ x m r o. (tt, o)), (tt, o)))
   table (R.Links w spot) b l i o = λ v n e. links limit w spot v b l i.0 i.1 o
-  table (R.Index c w indexed) b l i o = (
+  table (R.In (R.Index indexed) c w) b l i o = (
     b,
     o,
     i,
@@ -61,25 +61,25 @@ module _ (limit : ℕ) where
       λ s. (missing_spared _, λ n at. (tt, o)),
     ),
   )
-  table (R.Member c w) b l i o = λ n at. (
+  table (R.In R.Member c w) b l i o = λ n at. (
     (b, o, i, λ x m r o. (tt, o)),
     either_of limit (is_name n) _ _ b l (λ n. refl, (tt, o)) (λ e. refl, λ s n. refl),
   )
-  table (R.Postfix c w x) b l i o = ((b, o, tt, λ y m r o. call_of limit c w y b m i o), call_of limit c w x b l i o)
-  table (R.Arguments c w at) b l i o = (
+  table (R.In (R.Postfix x) c w) b l i o = ((b, o, tt, λ y m r o. call_of limit c w y b m i o), call_of limit c w x b l i o)
+  table (R.In (R.Arguments at) c w) b l i o = (
     missing_spared _,
     (λ n p. (tt, o), (λ e. refl, λ s. (b, o, i, λ x m r o. (tt, o)))),
   )
-  table (R.Items c w before) b l i o = (
+  table (R.In (R.Items before) c w) b l i o = (
     b,
     o,
     i,
     λ x m r o v n e. parted limit lists.Arguments _ _ v b m
         (λ n at. (tt, o), (b, o, i, λ x m r o. (tt, o))) (tt, o),
   )
-  table (R.Elements c w opening before) b l i o = λ v n e. element limit c w opening before v b l i o
-  table (R.Fields c w opening before) b l i o = (b, o, tt, λ v m r o. field limit c w opening before v b m i o)
-  table (R.Segments c w opening before) b l i o = (
+  table (R.In (R.Elements opening before) c w) b l i o = λ v n e. element limit c w opening before v b l i o
+  table (R.In (R.Fields opening before) c w) b l i o = (b, o, tt, λ v m r o. field limit c w opening before v b m i o)
+  table (R.In (R.Segments opening before) c w) b l i o = (
     b,
     o,
     tt,
@@ -95,11 +95,11 @@ module _ (limit : ℕ) where
     ),
   )
   table R.TextAfter b l i o = λ closing n at. (tt, o)
-  table (R.Jump c w at) b l i o = ((λ e. refl, λ s. (b, o, i, λ x m r o. (tt, o))), (λ e. refl, λ s. (tt, o)))
+  table (R.In (R.Jump at) c w) b l i o = ((λ e. refl, λ s. (b, o, i, λ x m r o. (tt, o))), (λ e. refl, λ s. (tt, o)))
   table (R.NextKey c before) b l i o = λ v n e. key limit c before v n e b l o
   table (R.NextOperator filter) b l i o = λ v n e. follower limit v b l o
-  table (R.BinaryOp c w at parent lhs) b l i o = (b, o, tt, λ v m r o. binary limit c w at parent lhs v b m i o)
-  table (R.ExprStatement c w) b l i o = (
+  table (R.In (R.BinaryOp at parent lhs) c w) b l i o = (b, o, tt, λ v m r o. binary limit c w at parent lhs v b m i o)
+  table (R.In R.ExprStatement c w) b l i o = (
     b,
     o,
     i,
@@ -116,21 +116,21 @@ module _ (limit : ℕ) where
       (tt, o),
     ),
   )
-  table (R.VarName c w) b l i o = (λ n at. (λ e. refl, λ s. (tt, o)), no_variable)
-  table (R.Initializer c w at) b l i o = (λ n p. (λ e. refl, λ s. (b, o, i, λ x m r o. (tt, o))), (tt, o))
-  table (R.Definition c w at k x) b l i o = (b, o, tt, λ x m r o. (b, o, i, λ x m r o. (tt, o)))
-  table (R.Import c w at) b l i o = (b, o, i, λ x m r o. (b, o, tt, λ x m r o. (tt, o)))
-  table (R.Export c w at) b l i o = λ v n e. export limit c w at v b l i o
+  table (R.In R.VarName c w) b l i o = (λ n at. (λ e. refl, λ s. (tt, o)), no_variable)
+  table (R.In (R.Initializer at) c w) b l i o = (λ n p. (λ e. refl, λ s. (b, o, i, λ x m r o. (tt, o))), (tt, o))
+  table (R.In (R.Definition at k x) c w) b l i o = (b, o, tt, λ x m r o. (b, o, i, λ x m r o. (tt, o)))
+  table (R.In (R.Import at) c w) b l i o = (b, o, i, λ x m r o. (b, o, tt, λ x m r o. (tt, o)))
+  table (R.In (R.Export at) c w) b l i o = λ v n e. export limit c w at v b l i o
   table R.Alias b l i o = (λ n at. (no_variable, λ n p. (tt, o)), (tt, o))
-  table (R.Statement c w) b l i o = λ v n e. statement limit c w v b l i o
-  table (R.Statements closing c w before) b l i o = λ v n e. statements limit closing c w before v b l i o
+  table (R.In R.Statement c w) b l i o = λ v n e. statement limit c w v b l i o
+  table (R.In (R.Statements closing before) c w) b l i o = λ v n e. statements limit closing c w before v b l i o
   table R.BlockStart b l i o = (missing_spared _, λ n at. (tt, o))
-  table (R.Inside c w) b l i o = inside limit c w (has_single_blocks c) b l i o
-  table (R.Block c w at) b l i o = (b, o, i, λ x m r o. (b, o, tt, λ x m r o. (tt, o)))
+  table (R.In R.Inside c w) b l i o = inside limit c w (has_single_blocks c) b l i o
+  table (R.In (R.Block at) c w) b l i o = (b, o, i, λ x m r o. (b, o, tt, λ x m r o. (tt, o)))
   table (R.BlockEnd at fs) b l i o = (missing_spared _, λ n p. (tt, o))
-  table (R.Construct c w at kind) b l i o = order_of_construct limit c w at kind b l i o
-  table (R.Braced c w at) b l i o = (b, o, tt, λ x m r o. (λ e. refl, λ s. (b, o, i, λ x m r o. (tt, o))))
-  table (R.Guard c w) b l i o = (
+  table (R.In (R.Construct at kind) c w) b l i o = order_of_construct limit c w at kind b l i o
+  table (R.In (R.Braced at) c w) b l i o = (b, o, tt, λ x m r o. (λ e. refl, λ s. (b, o, i, λ x m r o. (tt, o))))
+  table (R.In R.Guard c w) b l i o = (
     λ n. refl,
     (
       b,
@@ -142,7 +142,7 @@ module _ (limit : ℕ) where
       ),
     ),
   )
-  table (R.Iterated c w) b l i o = (
+  table (R.In R.Iterated c w) b l i o = (
     λ n. refl,
     (
       b,
@@ -154,8 +154,8 @@ module _ (limit : ℕ) where
       ),
     ),
   )
-  table (R.Conditional c w at) b l i o = (b, o, i, λ x m r o. (b, o, i, λ x m r o. (b, o, i, λ x m r o. (tt, o))))
-  table (R.Branch c w at) b l i o = (
+  table (R.In (R.Conditional at) c w) b l i o = (b, o, i, λ x m r o. (b, o, i, λ x m r o. (b, o, i, λ x m r o. (tt, o))))
+  table (R.In (R.Branch at) c w) b l i o = (
     λ n p. (
       λ n q. (λ e. refl, λ s. (b, o, i, λ x m r o. (tt, o))),
       (b, o, i, λ x m r o. (tt, o)),
@@ -187,8 +187,8 @@ module _ (limit : ℕ) where
     ),
   )
   table R.DoEnd b l i o = λ v n e. do_end limit v b l o
-  table (R.Arms c w before) b l i o = λ v n e. arms limit c w before v b l i o
-  table (R.Arm c w before) b l i o = (
+  table (R.In (R.Arms before) c w) b l i o = λ v n e. arms limit c w before v b l i o
+  table (R.In (R.Arm before) c w) b l i o = (
     b,
     o,
     i,
@@ -210,7 +210,7 @@ module _ (limit : ℕ) where
       ),
     ),
   )
-  table (R.DefaultArm c w default) b l i o = (
+  table (R.In (R.DefaultArm default) c w) b l i o = (
     λ n. refl,
     (
       missing_spared _,
@@ -223,14 +223,14 @@ module _ (limit : ℕ) where
       ),
     ),
   )
-  table (R.Cases c w before) b l i o = (b, o, i, λ x m r o. (λ n at. (b, o, i, λ x m r o. (tt, o)), (tt, o)))
-  table (R.Case c w) b l i o = (b, o, i, λ x m r o. (tt, o))
-  table (R.CaseGuard c w) b l i o = (λ n at. (b, o, i, λ x m r o. (tt, o)), (tt, o))
-  table (R.Action c w) b l i o = action limit c w (has_single_blocks c) b l i o
+  table (R.In (R.Cases before) c w) b l i o = (b, o, i, λ x m r o. (λ n at. (b, o, i, λ x m r o. (tt, o)), (tt, o)))
+  table (R.In R.Case c w) b l i o = (b, o, i, λ x m r o. (tt, o))
+  table (R.In R.CaseGuard c w) b l i o = (λ n at. (b, o, i, λ x m r o. (tt, o)), (tt, o))
+  table (R.In R.Action c w) b l i o = action limit c w (has_single_blocks c) b l i o
   table (R.ArmEnd itself) b l i o = λ v n e. arm_end limit itself v b l o
   table (R.DefaultEnd default) b l i o = λ v n e. default_end limit default v b l o
   table (R.Comments before) b l i o = (λ n at. (b, o, tt, λ x m r o. (tt, o)), (tt, o))
-  table (R.FunctionStatement c w comments p at is_private) b l i o = (
+  table (R.In (R.FunctionStatement comments p at is_private) c w) b l i o = (
     λ e. refl,
     λ s. (
       λ e. refl,
@@ -279,8 +279,8 @@ module _ (limit : ℕ) where
   )
   table (R.ParameterList f) b l i o = λ v n e. parameters limit f v b l o
   table (R.Parameters parts f before) b l i o = λ v n e. parameter limit parts f before v b l o
-  table (R.Closure c w at by) b l i o = (λ e. refl, λ room. closure limit c w at by b l i (begins limit c b l i o room))
-  table (R.ClosureBody c w) b l i o = (λ at. (tt, o), (b, o, i, λ x m r o. (tt, o)))
+  table (R.In (R.Closure at by) c w) b l i o = (λ e. refl, λ room. closure limit c w at by b l i (begins limit c b l i o room))
+  table (R.In R.ClosureBody c w) b l i o = (λ at. (tt, o), (b, o, i, λ x m r o. (tt, o)))
 
 -- ---- the law
 
@@ -308,7 +308,7 @@ used_there (u ∷ us) c w y (Form.captures rest) s t m =
     used_there us c w y rest (capturing (is_captured c w u.name s.library) u s) t m.1
 
 key_is_new_there : (c : Context) (w : Live) (own : List Text) (v : node.Statement) (n : ℕ) (us : List Use)
-    (f : Form.Form production (ClosureBody (level_up (in_closure c w)) (parameters_live own)) v) (s u t : Point)
+    (f : Form.Form production (In ClosureBody (level_up (in_closure c w)) (parameters_live own)) v) (s u t : Point)
     → KeptWithin c.sizes.functions (c.begun + 1) s.library → Met (Form.demands production f Nothing) (apart s) u
     → closure_count u.library ≡ n → u.library ≡ t.library
     → is_new (ended_closure n us own (made_block v)).key t.library ≡ true
@@ -324,7 +324,7 @@ key_is_new_there c w own v n us f s u t h m counted same =
 pub libraries_stay_orderly : LibrariesStayOrderly
 libraries_stay_orderly = record {
   empty = λ limit. record { numbered = empty; keys = tt; within = omega arith };
-  expression = λ c w. keeps_order c (R.Whole c w) (refl, refl);
+  expression = λ c w. keeps_order c (R.In R.Whole c w) (refl, refl);
   script = λ c w. keeps_order c (R.Script c w) (refl, refl);
   closure_key = λ c w own v n us f h x y rest s t bound o m.
       key_is_new_there c w own v n us f s m.0 t (o, bound) m.1 m.2.0

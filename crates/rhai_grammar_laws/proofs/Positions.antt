@@ -29,33 +29,33 @@ module _ (G : Position → Type 0) where
   Table g = Wants G g → AllowsAs G (λ x. PlacedRight G g x) (production g)
 
   pub table : (g : Goal) → Wants G g → AllowsAs G (λ x. PlacedRight G g x) (production g)
-  table (R.Whole c w) i = (tt, λ x h. (tt, tt))
-  table (R.Expression c w) i = λ at a. (λ e. a, (tt, λ x h. ((T.position G x h, h), λ y k. k)))
-  table (R.Operand c w) i = λ v. operand G c w v
-  table (R.RightOperand c w place) i = λ v. right G c w v
-  table (R.Primary c w) i = λ v. primary G c w v
-  table (R.Called c w name q) i = λ v. called G c w name q v i
+  table (R.In R.Whole c w) i = (tt, λ x h. (tt, tt))
+  table (R.In R.Expression c w) i = λ at a. (λ e. a, (tt, λ x h. ((T.position G x h, h), λ y k. k)))
+  table (R.In R.Operand c w) i = λ v. operand G c w v
+  table (R.In (R.RightOperand place) c w) i = λ v. right G c w v
+  table (R.In R.Primary c w) i = λ v. primary G c w v
+  table (R.In (R.Called name q) c w) i = λ v. called G c w name q v i
   table (R.Path w x) i = λ n at a m p b. (
     (longer G w.imports x (text_of m) p i b, λ y k. k),
     longer G w.imports x (text_of m) p i b,
   )
   table (R.Links w spot) i = λ v. links G w spot v i
-  table (R.Index c w indexed) i =
+  table (R.In (R.Index indexed) c w) i =
       (tt, λ x h. (T.of_index G indexed x h, λ n p a. h))
-  table (R.Member c w) i = λ n at a. ((a, λ call h. a), by_either G (Placed G) (is_name n) _ _ (tt, a) (λ e. a, tt))
-  table (R.Postfix c w x) i = ((i, λ y k. call_of G c w y k), call_of G c w x i)
-  table (R.Arguments c w at) i = (tt, (λ n p a. tt, (λ e. i, (tt, λ ns h. tt))))
-  table (R.Items c w before) i = (tt, λ x h v. parted G lists.Arguments _ _ v (λ n at a. tt, (tt, λ ns k. tt)) tt)
-  table (R.Elements c w opening before) i = λ v. element G c w opening before v i
-  table (R.Fields c w opening before) i = (tt, λ v h. field G c w opening before v i)
-  table (R.Segments c w opening before) i =
+  table (R.In R.Member c w) i = λ n at a. ((a, λ call h. a), by_either G (Placed G) (is_name n) _ _ (tt, a) (λ e. a, tt))
+  table (R.In (R.Postfix x) c w) i = ((i, λ y k. call_of G c w y k), call_of G c w x i)
+  table (R.In (R.Arguments at) c w) i = (tt, (λ n p a. tt, (λ e. i, (tt, λ ns h. tt))))
+  table (R.In (R.Items before) c w) i = (tt, λ x h v. parted G lists.Arguments _ _ v (λ n at a. tt, (tt, λ ns k. tt)) tt)
+  table (R.In (R.Elements opening before) c w) i = λ v. element G c w opening before v i
+  table (R.In (R.Fields opening before) c w) i = (tt, λ v h. field G c w opening before v i)
+  table (R.In (R.Segments opening before) c w) i =
       (tt, λ p h. (λ e. i, (tt, λ fs k. (tt, λ t j. either_of G t.2 _ _ tt (i, λ ns q. tt)))))
   table R.TextAfter i = λ closing a n at b. tt
-  table (R.Jump c w at) i = ((λ e. i, (tt, λ x h. tt)), (λ e. i, tt))
+  table (R.In (R.Jump at) c w) i = ((λ e. i, (tt, λ x h. tt)), (λ e. i, tt))
   table (R.NextKey c before) i = λ v. key G c before v
   table (R.NextOperator filter) i = λ v. follower G v
-  table (R.BinaryOp c w at parent lhs) i = (tt, λ v h. binary G c w at parent lhs v i.0 i.1)
-  table (R.ExprStatement c w) i = (
+  table (R.In (R.BinaryOp at parent lhs) c w) i = (tt, λ v h. binary G c w at parent lhs v i.0 i.1)
+  table (R.In R.ExprStatement c w) i = (
     tt,
     λ x h. (
       λ n at a. (
@@ -68,29 +68,29 @@ module _ (G : Position → Type 0) where
       T.position G x h,
     ),
   )
-  table (R.VarName c w) i = (λ n at a. (λ e. a, tt), tt)
-  table (R.Initializer c w at) i = (λ n p a. (λ e. i, (tt, λ x h. tt)), tt)
-  table (R.Definition c w at k x) i = (tt, λ n h. (i, λ x k. i))
-  table (R.Import c w at) i = (tt, λ x h. (tt, λ other k. i))
-  table (R.Export c w at) i = λ v. export G c w at v i
+  table (R.In R.VarName c w) i = (λ n at a. (λ e. a, tt), tt)
+  table (R.In (R.Initializer at) c w) i = (λ n p a. (λ e. i, (tt, λ x h. tt)), tt)
+  table (R.In (R.Definition at k x) c w) i = (tt, λ n h. (i, λ x k. i))
+  table (R.In (R.Import at) c w) i = (tt, λ x h. (tt, λ other k. i))
+  table (R.In (R.Export at) c w) i = λ v. export G c w at v i
   table R.Alias i = (λ n at a m p b. tt, tt)
-  table (R.Statement c w) i = λ v. statement G c w v
-  table (R.Statements closing c w before) i = λ v. statements G closing c w before v
+  table (R.In R.Statement c w) i = λ v. statement G c w v
+  table (R.In (R.Statements closing before) c w) i = λ v. statements G closing c w before v
   table R.BlockStart i = λ n at a. a
-  table (R.Inside c w) i = inside G c w (has_single_blocks c)
-  table (R.Block c w at) i = (tt, λ fs h. (i, λ b k. k))
+  table (R.In R.Inside c w) i = inside G c w (has_single_blocks c)
+  table (R.In (R.Block at) c w) i = (tt, λ fs h. (i, λ b k. k))
   table (R.BlockEnd at fs) i = λ n p a. i
-  table (R.Construct c w at kind) i = position_of_construct G c w at kind i
-  table (R.Braced c w at) i = (tt, λ p h. (λ e. i, (h, λ b k. k)))
-  table (R.Guard c w) i = (tt, (tt, λ x h. (T.of_guard G x h, (tt, tt))))
-  table (R.Iterated c w) i = (tt, (tt, λ x h. (T.of_iterated G x h, tt)))
-  table (R.Conditional c w at) i = (tt, λ x h. (i, λ b k. (i, λ e j. i)))
-  table (R.Branch c w at) i = (λ n p a. (λ m q b. (λ e. i, (b, λ f h. tt)), (i, λ x h. tt)), tt)
+  table (R.In (R.Construct at kind) c w) i = position_of_construct G c w at kind i
+  table (R.In (R.Braced at) c w) i = (tt, λ p h. (λ e. i, (h, λ b k. k)))
+  table (R.In R.Guard c w) i = (tt, (tt, λ x h. (T.of_guard G x h, (tt, tt))))
+  table (R.In R.Iterated c w) i = (tt, (tt, λ x h. (T.of_iterated G x h, tt)))
+  table (R.In (R.Conditional at) c w) i = (tt, λ x h. (i, λ b k. (i, λ e j. i)))
+  table (R.In (R.Branch at) c w) i = (λ n p a. (λ m q b. (λ e. i, (b, λ f h. tt)), (i, λ x h. tt)), tt)
   table R.LoopNames i = (λ n p a m q b k r c j s d. (λ e. d, λ l x f o y g. tt), λ n p a m q b. tt)
   table R.Catch i = λ n p a. (λ m q b k r c j s d. tt, tt)
   table R.DoEnd i = λ v. do_end G v
-  table (R.Arms c w before) i = λ v. arms G c w before v
-  table (R.Arm c w before) i = (
+  table (R.In (R.Arms before) c w) i = λ v. arms G c w before v
+  table (R.In (R.Arm before) c w) i = (
     tt,
     λ xs h. (
       tt,
@@ -101,29 +101,29 @@ module _ (G : Position → Type 0) where
       ),
     ),
   )
-  table (R.DefaultArm c w default) i = (tt, λ n p a. (tt, λ d h. (tt, λ e k. (i, λ x j. tt))))
-  table (R.Cases c w before) i = (
+  table (R.In (R.DefaultArm default) c w) i = (tt, λ n p a. (tt, λ d h. (tt, λ e k. (i, λ x j. tt))))
+  table (R.In (R.Cases before) c w) i = (
     tt,
     λ x k. (
       λ n p a. (one_more G before x i k, λ xs j. j),
       one_more G before x i k,
     ),
   )
-  table (R.Case c w) i = (tt, λ x h. h)
-  table (R.CaseGuard c w) i = (λ n p a. (tt, λ x h. tt), tt)
-  table (R.Action c w) i = action G c w (has_single_blocks c)
+  table (R.In R.Case c w) i = (tt, λ x h. h)
+  table (R.In R.CaseGuard c w) i = (λ n p a. (tt, λ x h. tt), tt)
+  table (R.In R.Action c w) i = action G c w (has_single_blocks c)
   table (R.ArmEnd itself) i = λ v. arm_end G itself v
   table (R.DefaultEnd default) i = λ v. default_end G default v i
   table (R.Comments before) i = (λ n at a. (tt, λ r h. tt), tt)
-  table (R.FunctionStatement c w comments p at is_private) i =
+  table (R.In (R.FunctionStatement comments p at is_private) c w) i =
       (λ e. i.0, (i.1, (λ e. i.1, (i.1, λ ended h. (i.1, i.1)))))
   table (R.Function c comments at is_private) i =
       (tt, λ head h. (tt, λ ns k. (λ n p a. (λ e. i, (a, λ b j. tt)), tt)))
   table R.FunctionHead i = λ n at a. (λ m p b l q c. (λ e. c, tt), either_of G (is_name n) _ _ (λ e. a, tt) tt)
   table (R.ParameterList f) i = λ v. parameters G f v
   table (R.Parameters parts f before) i = λ v. parameter G parts f before v
-  table (R.Closure c w at by) i = (i, closure G c w at by i)
-  table (R.ClosureBody c w) i = (λ at a. tt, (tt, λ f h. tt))
+  table (R.In (R.Closure at by) c w) i = (i, closure G c w at by i)
+  table (R.In R.ClosureBody c w) i = (λ at a. tt, (tt, λ f h. tt))
 
 -- ---- the law
 
@@ -175,6 +175,6 @@ of_goal g i = record {
 
 pub refusals_stand_at_tokens : RefusalsStandAtTokens
 refusals_stand_at_tokens = record {
-  expression = λ c w. of_goal (R.Whole c w) (λ G. tt);
+  expression = λ c w. of_goal (R.In R.Whole c w) (λ G. tt);
   script = λ c w. of_goal (R.Script c w) (λ G. tt);
 }

@@ -9,7 +9,7 @@ use Rattle.rhai_grammar.specs.Strengths.{is_operator, strength}
 use Rattle.rhai_grammar.specs.Verdicts.{operator_known, known_follower, run_ends, ended_follower, raise_due}
 use Rattle.rhai_grammar.specs.declared.filter.ExprFilter.{ExprFilter}
 use Rattle.rhai_grammar.specs.Strengths.{continues}
-use Rattle.rhai_grammar_reading.specs.Reading.{BinaryOp, NextOperator}
+use Rattle.rhai_grammar_reading.specs.Reading.{In, BinaryOp, NextOperator}
 use Rattle.rhai_grammar_reading.proofs.Looks.{op_at, operator_in, fine}
 use Rattle.rhai_grammar_reading.proofs.Strengths.{Sensible, sensible, next_continues, right_is, left_is, outer}
 use Rattle.rhai_grammar_reading.proofs.Strengths.{goes_operator}
@@ -118,7 +118,7 @@ record Climbed (filter : ExprFilter) (w : Live) (first begins : Context) (side :
 -- forms that are no higher
 abbrev Law : ℕ → Type 0
 Law n = (c : Context) (w : Live) (at : Position) (parent : ℕ) (lhs x : Node)
-    (f : Form production (BinaryOp c w at parent lhs) x)
+    (f : Form production (In (BinaryOp at parent lhs) c w) x)
     → height production f ≤ n → (filter : ExprFilter) → c.filter ≡ filter → (k : Demands) (s t : Point)
     → Met (demands production f k) s t
     → (first begins : Context) (side : Side) (top : Option Lexeme) (L : Run filter w first begins side c at top lhs)
@@ -129,7 +129,7 @@ Law n = (c : Context) (w : Live) (at : Position) (parent : ℕ) (lhs x : Node)
     → Climbed filter w first begins side parent x k from t
 
 climbed_end : (c : Context) (w : Live) (at : Position) (parent : ℕ) (lhs x : Node)
-    (f : Filled production (BinaryOp c w at parent lhs) (P.binary_of c w at parent lhs None) x) (filter : ExprFilter)
+    (f : Filled production (In (BinaryOp at parent lhs) c w) (P.binary_of c w at parent lhs None) x) (filter : ExprFilter)
     (k : Demands) (s t : Point) → None ≡ operator_in (follower_of filter (op_at s)) → verdict (operator_known filter)
     (op_at s) ≡ Fine → Met (demanded production f k) s t → (first begins : Context) (side : Side) (top : Option Lexeme)
     (L : Run filter w first begins side c at top lhs) → (from : Point)
@@ -149,7 +149,7 @@ climbed_end c w at parent lhs x given filter k s t is fits m first begins side t
 
 climbed_by : (i : ℕ) → Law i → (c : Context) (w : Live) (at : Position) (parent : ℕ) (lhs x : Node) (o : ℕ × Bool)
     (b : Bool) → continues parent o.0 o.1 ≡ b
-    → (f : Filled production (BinaryOp c w at parent lhs)
+    → (f : Filled production (In (BinaryOp at parent lhs) c w)
     (if b then P.binary_on c w at parent lhs o.0 else Rattle.rhai_grammar.specs.Productions.give lhs) x)
     → height_in production f ≤ i → (filter : ExprFilter) → c.filter ≡ filter → (k : Demands) (s t : Point)
     → Some o ≡ operator_in (follower_of filter (op_at s)) → verdict (operator_known filter) (op_at s) ≡ Fine
@@ -191,7 +191,7 @@ climbed_by i law c w at parent lhs x o true goes
     (λ e j u h. passes fits _ _ (is_op.0, (left, (suits op on, (m.1.0, right.passes _ u (q.0, (q.1.0, h)))))))
 
 climbed_of : (i : ℕ) → Law i → (c : Context) (w : Live) (at : Position) (parent : ℕ) (lhs x : Node)
-    (v : Option (ℕ × Bool)) (f : Filled production (BinaryOp c w at parent lhs) (P.binary_of c w at parent lhs v) x)
+    (v : Option (ℕ × Bool)) (f : Filled production (In (BinaryOp at parent lhs) c w) (P.binary_of c w at parent lhs v) x)
     → height_in production f ≤ i → (filter : ExprFilter) → c.filter ≡ filter → (k : Demands) (s t : Point)
     → v ≡ operator_in (follower_of filter (op_at s)) → verdict (operator_known filter) (op_at s) ≡ Fine
     → Met (demanded production f k) s t → (first begins : Context) (side : Side) (top : Option Lexeme)

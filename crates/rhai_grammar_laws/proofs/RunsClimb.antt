@@ -8,7 +8,7 @@ use Rattle.rhai_grammar.specs.Strengths.{is_operator, strength, left_of}
 use Rattle.rhai_grammar.specs.Verdicts.{operator_known, known_follower, run_ends, ended_follower, raise_due}
 use Rattle.rhai_grammar.specs.declared.filter.ExprFilter.{ExprFilter}
 use Rattle.rhai_grammar.specs.Strengths.{continues}
-use Rattle.rhai_grammar_reading.specs.Reading.{BinaryOp, NextOperator}
+use Rattle.rhai_grammar_reading.specs.Reading.{In, BinaryOp, NextOperator}
 use Rattle.rhai_grammar_reading.proofs.Looks.{op_at, pos_at, operator_in, fine, or_wrong}
 use Rattle.rhai_grammar_reading.proofs.Strengths.{sensible, next_continues, right_is, left_is, left_down, outer}
 use Rattle.rhai_grammar_reading.proofs.Strengths.{not_true}
@@ -87,7 +87,7 @@ next_form filter s e =
 -- a run ends
 end_if : (c : Context) (w : Live) (at : Position) (parent : ℕ) (lhs : Node) (o : ℕ × Bool) (b : Bool) (s : Point)
     → b ≡ false
-    → FitsHere (λ (f : Filled production (BinaryOp c w at parent lhs) (if b then P.binary_on c w at parent lhs o.0
+    → FitsHere (λ (f : Filled production (In (BinaryOp at parent lhs) c w) (if b then P.binary_on c w at parent lhs o.0
     else S.give lhs) lhs) k.
     demanded production f k) s
 end_if c w at parent lhs o false s e = record { it = given; fits = λ k t m. m }
@@ -95,7 +95,7 @@ end_if c w at parent lhs o true s e = absurd cc
 
 end_by : (c : Context) (w : Live) (at : Position) (parent : ℕ) (lhs : Node) (fo : Follower) (s : Point)
     → next_continues parent fo ≡ false
-    → FitsHere (λ (f : Filled production (BinaryOp c w at parent lhs) (P.binary_of c w at parent lhs (operator_in fo))
+    → FitsHere (λ (f : Filled production (In (BinaryOp at parent lhs) c w) (P.binary_of c w at parent lhs (operator_in fo))
     lhs) k. demanded production f k) s
 end_by c w at parent lhs (Operator n right) s e = end_if c w at parent lhs (n, right) (continues parent n right) s e
 end_by c w at parent lhs (Unknown t) s e = record { it = given; fits = λ k t m. m }
@@ -104,7 +104,7 @@ end_by c w at parent lhs Other s e = record { it = given; fits = λ k t m. m }
 last_form : (c : Context) (w : Live) (at : Position) (parent : ℕ) (lhs : Node) (s : Point)
     → verdict (operator_known c.filter) (op_at s) ≡ Fine
     → next_continues parent (follower_of c.filter (op_at s)) ≡ false
-    → FitsHere (λ (f : Form production (BinaryOp c w at parent lhs) lhs) k. demands production f k) s
+    → FitsHere (λ (f : Form production (In (BinaryOp at parent lhs) c w) lhs) k. demands production f k) s
 last_form c w at parent lhs s e off =
     let n = next_form c.filter s e in
     let r = end_by c w at parent lhs (follower_of c.filter (op_at s)) s off in
@@ -117,8 +117,8 @@ last_form c w at parent lhs s e off =
 -- a run goes on
 on_if : (c : Context) (w : Live) (at : Position) (parent : ℕ) (lhs z : Node) (o : ℕ × Bool) (b : Bool) (s : Point)
     → b ≡ true
-    → (f : Filled production (BinaryOp c w at parent lhs) (P.binary_on c w at parent lhs o.0) z)
-    → (g : Filled production (BinaryOp c w at parent lhs) (if b then P.binary_on c w at parent lhs o.0
+    → (f : Filled production (In (BinaryOp at parent lhs) c w) (P.binary_on c w at parent lhs o.0) z)
+    → (g : Filled production (In (BinaryOp at parent lhs) c w) (if b then P.binary_on c w at parent lhs o.0
     else S.give lhs) z)
     × ((k : Demands) (t : Point) → Met (demanded production f k) s t → Met (demanded production g k) s t)
 on_if c w at parent lhs z o true s e f = (f, λ k t m. m)
@@ -127,8 +127,8 @@ on_if c w at parent lhs z o false s e f = absurd cc
 on_by : (c : Context) (w : Live) (at : Position) (parent : ℕ) (lhs z : Node) (fo : Follower) (s : Point)
     → is_operator fo ≡ true
     → next_continues parent fo ≡ true
-    → (f : Filled production (BinaryOp c w at parent lhs) (P.binary_on c w at parent lhs (strength fo)) z)
-    → (g : Filled production (BinaryOp c w at parent lhs) (P.binary_of c w at parent lhs (operator_in fo)) z)
+    → (f : Filled production (In (BinaryOp at parent lhs) c w) (P.binary_on c w at parent lhs (strength fo)) z)
+    → (g : Filled production (In (BinaryOp at parent lhs) c w) (P.binary_of c w at parent lhs (operator_in fo)) z)
     × ((k : Demands) (t : Point) → Met (demanded production f k) s t → Met (demanded production g k) s t)
 on_by c w at parent lhs z (Operator n right) s is e f =
     on_if c w at parent lhs z (n, right) (continues parent n right) s e f
@@ -139,9 +139,9 @@ on_form : (c : Context) (w : Live) (at : Position) (parent : ℕ) (lhs z : Node)
     → verdict (operator_known c.filter) (op_at s) ≡ Fine
     → is_operator (follower_of c.filter (op_at s)) ≡ true → next_continues parent (follower_of c.filter (op_at s))
     ≡ true
-    → (f : Filled production (BinaryOp c w at parent lhs) (P.binary_on c w at parent lhs
+    → (f : Filled production (In (BinaryOp at parent lhs) c w) (P.binary_on c w at parent lhs
     (strength (follower_of c.filter (op_at s)))) z)
-    → (g : Form production (BinaryOp c w at parent lhs) z)
+    → (g : Form production (In (BinaryOp at parent lhs) c w) z)
     × ((k : Demands) (t : Point) → Met (demanded production f k) s t → Met (demands production g k) s t)
 on_form c w at parent lhs z s e is on f =
     let n = next_form c.filter s e in
@@ -168,9 +168,9 @@ record Begins (filter : ExprFilter) (w : Live) (first begins c : Context) (side 
   climbs : (parent : ℕ)
       → ((l : Lexeme) → is_operator (follower_of filter l) ≡ true → side_fits filter side l ≡ true
       → next_continues parent (follower_of filter l) ≡ true)
-      → Shut f (op_at end) → (z : Node) (g : Form production (BinaryOp c w p parent x) z) (j : Demands) (v : Point)
+      → Shut f (op_at end) → (z : Node) (g : Form production (In (BinaryOp p parent x) c w) z) (j : Demands) (v : Point)
       → Met (demands production g j) end v
-      → (h : Form production (BinaryOp begins w (position_of y) parent y) z) × Met (demands production h j) rest v
+      → (h : Form production (In (BinaryOp (position_of y) parent y) begins w) z) × Met (demands production h j) rest v
 
 after_first : (side : Side) (j : Demands) (e t : Point) → Met (raise_after side j) e t
     → Met j e t × ((k : Demands) (v : Point) → Met k e v → Met (raise_after side k) e v)
@@ -251,7 +251,7 @@ begins {filter = filter} {w = w} {side = side} (binary {c = c} {d = d} {p = p} {
           (sym fc) b.known) in
           let known : verdict (operator_known c.filter) (op_at a.end) ≡ Fine =
           subst (λ f. verdict (operator_known f) (op_at a.end) ≡ Fine) (sym fc) a.ends in
-          let whole : Filled production (BinaryOp c w p parent l) (P.binary_on c w p parent l
+          let whole : Filled production (In (BinaryOp p parent l) c w) (P.binary_on c w p parent l
           (strength e)) z =
           this op at (part b.y b.operand (part (operator_in (follower_of c.filter (op_at b.rest))) next.it
           (must (part r tight.0 (

@@ -217,8 +217,8 @@ definition c i w at pos k e = (
 
 pub segments : (c : Context) (n : ℕ) (w : Live) (at pos : Position) (s t : Text) (i j : Bool) (p q : Position)
     (a b : Nodes) → s ≡ t → i ≡ j → nodes_shape a ≡ nodes_shape b → LikeIn OnLists
-    (if i then S.give (added_text a s p) else S.part (R.Segments c w at (added_text a s p)) S.give)
-    (if j then S.give (added_text b t q) else S.part (R.Segments (at_level n c) w pos (added_text b t q)) S.give)
+    (if i then S.give (added_text a s p) else S.part (R.In (R.Segments at (added_text a s p)) c w) S.give)
+    (if j then S.give (added_text b t q) else S.part (R.In (R.Segments pos (added_text b t q)) (at_level n c) w) S.give)
 segments c n w at pos s t true true p q a b e d f = ap (λ u. nodes_shape (added_text a u p)) e ∙ text_added a b t p q f
 segments c n w at pos s t false false p q a b e d f =
     (segment_lists (ap (λ u. nodes_shape (added_text a u p)) e ∙ text_added a b t p q f), λ x y g. g)

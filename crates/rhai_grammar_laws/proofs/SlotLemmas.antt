@@ -50,7 +50,7 @@ named w l o false name own at pos e h =
 
 -- the next token after the name
 named_there : (c : Context) (w : Live) {x : node.Node}
-    (f : D.Filled production (R.Primary c w) (P.primary_by c w begin.Name) x) (s t : Point)
+    (f : D.Filled production (R.In R.Primary c w) (P.primary_by c w begin.Name) x) (s t : Point)
     → Met (D.demanded production f Nothing) s t → (name : Text) (at : Position) (o : Option ℕ)
     → x ≡ variable_of o name at
     → ((excludes_use (next_at code t).lexeme ≡ false) × IsLatest name w.slots o)
@@ -184,12 +184,12 @@ kept_import name w =
 -- ---- the productions that say what is live after them
 
 abbrev KeepsRight : (g : Goal) → Val g → Type 0
-KeepsRight (R.Definition c w at k e) f = KeptSlots w f.1
-KeepsRight (R.Import c w at) f = KeptSlots w f.1
-KeepsRight (R.Export c w at) f = KeptSlots w f.1
-KeepsRight (R.Statement c w) f = KeptSlots w f.1
-KeepsRight (R.FunctionStatement c w comments first at is_private) f = KeptSlots w f.1
-KeepsRight (R.Statements closing c w before) fs = KeptSlots w fs.1
+KeepsRight (R.In (R.Definition at k e) c w) f = KeptSlots w f.1
+KeepsRight (R.In (R.Import at) c w) f = KeptSlots w f.1
+KeepsRight (R.In (R.Export at) c w) f = KeptSlots w f.1
+KeepsRight (R.In R.Statement c w) f = KeptSlots w f.1
+KeepsRight (R.In (R.FunctionStatement comments first at is_private) c w) f = KeptSlots w f.1
+KeepsRight (R.In (R.Statements closing before) c w) fs = KeptSlots w fs.1
 KeepsRight _ x = Unit {0}
 
 export : (c : Context) (w : Live) (at : Position) (v : Option Bool)
@@ -238,12 +238,12 @@ statements closing c w fs stands.Statement =
 statements closing c w fs stands.Nothing = tt
 
 table : (g : Goal) → Always KeepsRight (λ x. KeepsRight g x) (production g)
-table (R.Definition c w at k e) = λ n h x i. kept_as e n.0 k w
-table (R.Import c w at) = λ x h other i. kept_import other w
-table (R.Export c w at) = λ v. export c w at v
-table (R.Statement c w) = λ v. statement c w v
-table (R.FunctionStatement c w comments first at is_private) = λ f h. same w
-table (R.Statements closing c w before) = λ v. statements closing c w before v
+table (R.In (R.Definition at k e) c w) = λ n h x i. kept_as e n.0 k w
+table (R.In (R.Import at) c w) = λ x h other i. kept_import other w
+table (R.In (R.Export at) c w) = λ v. export c w at v
+table (R.In R.Statement c w) = λ v. statement c w v
+table (R.In (R.FunctionStatement comments first at is_private) c w) = λ f h. same w
+table (R.In (R.Statements closing before) c w) = λ v. statements closing c w before v
 table g = trivially KeepsRight (λ x. Unit {0}) (production g) (λ x. tt)
 
 kept : {g : Goal} {x : Val g} → D.Form production g x → KeepsRight g x
@@ -252,11 +252,11 @@ kept f = always KeepsRight production table f
 -- ---- the law
 
 construct_leaves : {c : Context} {w : Live} {x : node.Statement × Live} (kind : Kind)
-    → D.Filled production (R.Statement c w) (P.statement_by c w (start.Construct kind)) x → x.1 ≡ w
+    → D.Filled production (R.In R.Statement c w) (P.statement_by c w (start.Construct kind)) x → x.1 ≡ w
 construct_leaves kind (D.this l at (D.must (D.must (D.part v f D.given)))) = refl
 
 expression_leaves : {c : Context} {w : Live} {x : node.Statement × Live}
-    → D.Filled production (R.Statement c w) (P.statement_by c w start.Expression) x → x.1 ≡ w
+    → D.Filled production (R.In R.Statement c w) (P.statement_by c w start.Expression) x → x.1 ≡ w
 expression_leaves (D.here l at (D.must (D.part v f D.given))) = refl
 
 -- What begins with all slots and imports that were live gives them back.

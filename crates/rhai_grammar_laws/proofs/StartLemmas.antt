@@ -16,9 +16,9 @@ use Rattle.rhai_grammar.specs.Forms as D
 use Rattle.rhai_grammar_laws.proofs.Keeping.{holds, trivially}
 
 abbrev StartsRight : (g : Goal) → Val g → (first next : Lexeme) → Type 0
-StartsRight (R.Expression c w) x l n = starts c l ≡ true
-StartsRight (R.Operand c w) x l n = starts c l ≡ true
-StartsRight (R.Primary c w) x l n = starts c l ≡ true
+StartsRight (R.In R.Expression c w) x l n = starts c l ≡ true
+StartsRight (R.In R.Operand c w) x l n = starts c l ≡ true
+StartsRight (R.In R.Primary c w) x l n = starts c l ≡ true
 StartsRight _ x l n = Unit {0}
 
 abbrev Good : Ended → Type 0
@@ -56,11 +56,11 @@ operand c w begin.Sign n e = so c n (P.operand_by c w begin.Sign) (begun c n beg
 operand c w _ n e = λ x m h y o k ls q j fault. h
 
 table : (g : Goal) (n : Lexeme) → Keeps StartsRight Good (λ x next. StartsRight g x n next) (production g) n
-table (R.Expression c w) n = λ at room x m h y o k. h
-table (R.Operand c w) n = λ v e. operand c w v n e
-table (R.Primary c w) n = λ v e. primary c w v n e
+table (R.In R.Expression c w) n = λ at room x m h y o k. h
+table (R.In R.Operand c w) n = λ v e. operand c w v n e
+table (R.In R.Primary c w) n = λ v e. primary c w v n e
 table g n = trivially StartsRight (λ x next. Unit {0}) (production g) n (λ x m. tt)
 
-pub begins_so : (c : Context) (w : Live) (x : Node) (f : D.Form production (R.Expression c w) x) (s t : Point)
+pub begins_so : (c : Context) (w : Live) (x : Node) (f : D.Form production (R.In R.Expression c w) x) (s t : Point)
     → Met (D.demands production f Nothing) s t → starts c (next_at code s).lexeme ≡ true
 begins_so c w x f s t m = holds StartsRight production table f s t m

@@ -59,52 +59,52 @@ uncalled x next = if is_variable x && excludes_use next then [] else mentions x
 -- Where it begins at this token, what is given for a goal mentions what was before, and the names that are used in its
 -- form. An operand that is called is no use of a name.
 abbrev pub UsesRight : (g : Goal) → Val g → (first next : Lexeme) → List Text → Type 0
-UsesRight (R.Whole c w) x l n us = Only (mentions x) us
-UsesRight (R.Expression c w) x l n us = Only (mentions x) us
-UsesRight (R.Operand c w) x l n us = Only (mentions x) us
-UsesRight (R.RightOperand c w place) x l n us = Only (mentions x) us
-UsesRight (R.Primary c w) x l n us = (is_variable x && excludes_use n) ≡ false → Only (mentions x) us
-UsesRight (R.Called c w at q) x l n us = Only (all_mentions x.1) us
+UsesRight (R.In R.Whole c w) x l n us = Only (mentions x) us
+UsesRight (R.In R.Expression c w) x l n us = Only (mentions x) us
+UsesRight (R.In R.Operand c w) x l n us = Only (mentions x) us
+UsesRight (R.In (R.RightOperand place) c w) x l n us = Only (mentions x) us
+UsesRight (R.In R.Primary c w) x l n us = (is_variable x && excludes_use n) ≡ false → Only (mentions x) us
+UsesRight (R.In (R.Called at q) c w) x l n us = Only (all_mentions x.1) us
 UsesRight (R.Path w y) x l n us = Only [] us × (is_variable y ≡ true → Silent (mentions x))
 UsesRight (R.Links w spot) ls l n us = More (link_mentions spot.before) (link_mentions ls) us
-UsesRight (R.Index c w indexed) x l n us = Only (mentions x) us
-UsesRight (R.Member c w) x l n us = Only (mentions x) us
-UsesRight (R.Postfix c w y) x l n us = More (uncalled y l) (mentions x) us
-UsesRight (R.Arguments c w at) xs l n us = Only (all_mentions xs) us
-UsesRight (R.Items c w before) xs l n us = More (all_mentions before) (all_mentions xs) us
-UsesRight (R.Elements c w at before) xs l n us = More (all_mentions before) (all_mentions xs) us
-UsesRight (R.Fields c w at before) xs l n us = More (property_mentions before) (property_mentions xs) us
-UsesRight (R.Segments c w at before) xs l n us = More (all_mentions before) (all_mentions xs) us
-UsesRight (R.Jump c w at) x l n us = Only (optional_mentions x) us
-UsesRight (R.BinaryOp c w at parent lhs) x l n us = More (mentions lhs) (mentions x) us
-UsesRight (R.ExprStatement c w) f l n us = Only (statement_mentions f) us
-UsesRight (R.Initializer c w at) x l n us = Only (mentions x) us
-UsesRight (R.Definition c w at constant exported) f l n us = Only (statement_mentions f.0) us
-UsesRight (R.Import c w at) f l n us = Only (statement_mentions f.0) us
-UsesRight (R.Export c w at) f l n us = Only (statement_mentions f.0) us
-UsesRight (R.Statement c w) f l n us = Only (statement_mentions f.0) us
-UsesRight (R.Statements closing c w before) fs l n us = More (statements_mentions before) (statements_mentions fs.0) us
-UsesRight (R.Inside c w) fs l n us = Only (statements_mentions fs) us
-UsesRight (R.Block c w at) b l n us = Only (body_mentions b) us
+UsesRight (R.In (R.Index indexed) c w) x l n us = Only (mentions x) us
+UsesRight (R.In R.Member c w) x l n us = Only (mentions x) us
+UsesRight (R.In (R.Postfix y) c w) x l n us = More (uncalled y l) (mentions x) us
+UsesRight (R.In (R.Arguments at) c w) xs l n us = Only (all_mentions xs) us
+UsesRight (R.In (R.Items before) c w) xs l n us = More (all_mentions before) (all_mentions xs) us
+UsesRight (R.In (R.Elements at before) c w) xs l n us = More (all_mentions before) (all_mentions xs) us
+UsesRight (R.In (R.Fields at before) c w) xs l n us = More (property_mentions before) (property_mentions xs) us
+UsesRight (R.In (R.Segments at before) c w) xs l n us = More (all_mentions before) (all_mentions xs) us
+UsesRight (R.In (R.Jump at) c w) x l n us = Only (optional_mentions x) us
+UsesRight (R.In (R.BinaryOp at parent lhs) c w) x l n us = More (mentions lhs) (mentions x) us
+UsesRight (R.In R.ExprStatement c w) f l n us = Only (statement_mentions f) us
+UsesRight (R.In (R.Initializer at) c w) x l n us = Only (mentions x) us
+UsesRight (R.In (R.Definition at constant exported) c w) f l n us = Only (statement_mentions f.0) us
+UsesRight (R.In (R.Import at) c w) f l n us = Only (statement_mentions f.0) us
+UsesRight (R.In (R.Export at) c w) f l n us = Only (statement_mentions f.0) us
+UsesRight (R.In R.Statement c w) f l n us = Only (statement_mentions f.0) us
+UsesRight (R.In (R.Statements closing before) c w) fs l n us = More (statements_mentions before) (statements_mentions fs.0) us
+UsesRight (R.In R.Inside c w) fs l n us = Only (statements_mentions fs) us
+UsesRight (R.In (R.Block at) c w) b l n us = Only (body_mentions b) us
 UsesRight (R.BlockEnd at fs) b l n us = More (statements_mentions fs) (body_mentions b) us
-UsesRight (R.Construct c w at kind) f l n us = Only (statement_mentions f) us
-UsesRight (R.Braced c w at) b l n us = Only (body_mentions b) us
-UsesRight (R.Guard c w) x l n us = Only (mentions x) us
-UsesRight (R.Iterated c w) x l n us = Only (mentions x) us
-UsesRight (R.Conditional c w at) f l n us = Only (statement_mentions f) us
-UsesRight (R.Branch c w at) b l n us = Only (body_mentions b) us
-UsesRight (R.Arms c w before) x l n us = More (collected_mentions before) (collected_mentions x) us
-UsesRight (R.Arm c w before) a l n us =
+UsesRight (R.In (R.Construct at kind) c w) f l n us = Only (statement_mentions f) us
+UsesRight (R.In (R.Braced at) c w) b l n us = Only (body_mentions b) us
+UsesRight (R.In R.Guard c w) x l n us = Only (mentions x) us
+UsesRight (R.In R.Iterated c w) x l n us = Only (mentions x) us
+UsesRight (R.In (R.Conditional at) c w) f l n us = Only (statement_mentions f) us
+UsesRight (R.In (R.Branch at) c w) b l n us = Only (body_mentions b) us
+UsesRight (R.In (R.Arms before) c w) x l n us = More (collected_mentions before) (collected_mentions x) us
+UsesRight (R.In (R.Arm before) c w) a l n us =
     (are_literal_values a.0 ≡ true) × Only (mentions a.1 ++ mentions a.2) us
-UsesRight (R.DefaultArm c w default) x l n us = Only (mentions x) us
-UsesRight (R.Cases c w before) xs l n us = More (all_mentions before) (all_mentions xs) us
-UsesRight (R.Case c w) x l n us = Only (mentions x) us
-UsesRight (R.CaseGuard c w) x l n us = Only (mentions x) us
-UsesRight (R.Action c w) x l n us = Only (mentions x.0) us
-UsesRight (R.FunctionStatement c w comments first at is_private) f l n us = Only (statement_mentions f.0) us
+UsesRight (R.In (R.DefaultArm default) c w) x l n us = Only (mentions x) us
+UsesRight (R.In (R.Cases before) c w) xs l n us = More (all_mentions before) (all_mentions xs) us
+UsesRight (R.In R.Case c w) x l n us = Only (mentions x) us
+UsesRight (R.In R.CaseGuard c w) x l n us = Only (mentions x) us
+UsesRight (R.In R.Action c w) x l n us = Only (mentions x.0) us
+UsesRight (R.In (R.FunctionStatement comments first at is_private) c w) f l n us = Only (statement_mentions f.0) us
 UsesRight (R.Function c comments at is_private) x l n us = Only (body_mentions x.function.body) us
-UsesRight (R.Closure c w at by) x l n us = Only (mentions x) us
-UsesRight (R.ClosureBody c w) f l n us = Only (statement_mentions f) us
+UsesRight (R.In (R.Closure at by) c w) x l n us = Only (mentions x) us
+UsesRight (R.In R.ClosureBody c w) f l n us = Only (statement_mentions f) us
 UsesRight _ x l n us = Only [] us
 
 -- the body of a function reads these names
@@ -130,7 +130,7 @@ by_next x l at s e = ap (λ (i : Item). is_variable x && excludes_use i.lexeme) 
 
 -- What calls a name begins with the next token.
 call_begins : (x : Node) (c : Context) (w : Live) (at : Position) (q : Bool) (v : Calling) → is_call v ≡ true
-    → {y : Bool × Nodes} (f : F.Filled production (R.Called c w at q) (P.called_by c w at q v) y) (a b : List Taken)
+    → {y : Bool × Nodes} (f : F.Filled production (R.In (R.Called at q) c w) (P.called_by c w at q v) y) (a b : List Taken)
     (k : Demands) (s t : Point) → Met (F.demanded production f k) s t
     → is_called_by ((spelling_in production f ++ a) ++ b) x ≡ (is_variable x && excludes_use (op_at s))
 call_begins x c w at q calls_by.Pair i (F.this l p f) a b k s t m = by_next x l p s m.1.0
@@ -147,7 +147,7 @@ links_begin x w spot link.Bracket (F.this l p f) k s t m e = by_next x l p s m.1
 links_begin x w spot link.Dot (F.this l p f) k s t m e = by_next x l p s m.1.0
 links_begin x w spot link.Nothing (F.checked F.given) k s t m e = sym e
 
-followed : (c : Context) (w : Live) (x : Node) (n : Lexeme) → IsFollowed (R.Operand c w) (P.operand_ends c w x) x n
+followed : (c : Context) (w : Live) (x : Node) (n : Lexeme) → IsFollowed (R.In R.Operand c w) (P.operand_ends c w x) x n
 followed c w x n y (F.part z (F.form (F.if_so (F.part q (F.form (F.this l at f)) rest))) more) k s t m e =
     by_next x l at s m.1.1.0 ∙ ap (λ i. is_variable x && excludes_use i) e
 followed c w x n y (F.part z (F.form (F.if_not (F.if_so (F.part q (F.form (F.choose l at f)) rest)))) more) k s t m e =
@@ -175,7 +175,7 @@ unless true h = none
 unless false h = h refl
 
 pub operand : (c : Context) (w : Live) (v : Beginning) (n : Lexeme)
-    → KeepsIn (R.Operand c w) (λ x us. Only (mentions x) us) (P.operand_by c w v) n [] []
+    → KeepsIn (R.In R.Operand c w) (λ x us. Only (mentions x) us) (P.operand_by c w v) n [] []
 operand c w begin.Sign n = λ at m room x o us h ok. same (sign (effect n) (plain_sign n) at x) h
 operand c w _ n = λ x m us h. (
   followed c w x m,
@@ -183,7 +183,7 @@ operand c w _ n = λ x m us h. (
 )
 
 pub right : (c : Context) (w : Live) (role : OperandRole) (v : OperandStart) (n : Lexeme)
-    → KeepsIn (R.RightOperand c w role) (λ x us. Only (mentions x) us) (P.right_by c w v) n [] []
+    → KeepsIn (R.In (R.RightOperand role) c w) (λ x us. Only (mentions x) us) (P.right_by c w v) n [] []
 unfolding mentions
 right c w role first.Omitted n = λ at. none
 right c w role first.Jump n = λ f m us h. valued f.0 h
@@ -198,22 +198,22 @@ name_kept w true t at n e = not_both true (excludes_use n) refl e
 name_kept w false t at n e = λ c. variable t at w.slots
 
 pub primary : (c : Context) (w : Live) (v : Beginning) (n : Lexeme)
-    → Keeps UsesRight Good (R.Primary c w) PrimaryRight (P.primary_by c w v) n [] []
+    → Keeps UsesRight Good (R.In R.Primary c w) PrimaryRight (P.primary_by c w v) n [] []
 unfolding mentions
 primary c w begin.Value n = λ at m e. same (value n at) none
 primary c w begin.Name n = λ at m b e. name_kept w b (text_of n) at m e
 primary c w begin.Word n = λ at m. (
   λ is. not_both true (excludes_use m) refl (or_first (calls m) (qualifies m) (second (may_be_called (text_of n))
       (calls m) is)),
-  λ not. by_either (R.Primary c w) PrimaryRight (is_this (text_of n)) _ _ m [] [] (λ ok e. none) (λ e. absurd cc),
+  λ not. by_either (R.In R.Primary c w) PrimaryRight (is_this (text_of n)) _ _ m [] [] (λ ok e. none) (λ e. absurd cc),
 )
 primary c w begin.Group n = λ at m room x o us h is p q e. h
 primary c w begin.Array n = λ at m room xs o us h e. h
 primary c w begin.Map n = λ at m room ps o us h e. h
 primary c w begin.Interpolated n = λ at m room xs o us h e. begun (sym (text no_nodes (text_of n) at)) h
-primary c w (begin.Construct kind) n = by_either (R.Primary c w) PrimaryRight (may_be_value c kind) _ _ n [] []
+primary c w (begin.Construct kind) n = by_either (R.In R.Primary c w) PrimaryRight (may_be_value c kind) _ _ n [] []
     (λ at m a b f o us h e. valued f h) tt
-primary c w (begin.Closure by) n = by_either (R.Primary c w) PrimaryRight (may_be_closure c by) _ _ n [] []
+primary c w (begin.Closure by) n = by_either (R.In R.Primary c w) PrimaryRight (may_be_closure c by) _ _ n [] []
     (λ at m x o us h e. h) tt
 primary c w begin.Range n = λ at e. none
 primary c w _ n = tt
@@ -221,14 +221,14 @@ primary c w _ n = tt
 -- ---- calls and chains
 
 pub given : (c : Context) (w : Live) (at : Position) (q bang : Bool) (v : Calling) (n : Lexeme)
-    → KeepsIn (R.Called c w at q) (λ x us. Only (all_mentions x.1) us) (P.arguments_by c w at bang v) n [] []
+    → KeepsIn (R.In (R.Called at q) c w) (λ x us. Only (all_mentions x.1) us) (P.arguments_by c w at bang v) n [] []
 unfolding mentions
 given c w at q bang calls_by.Pair n = λ p m. none
 given c w at q bang calls_by.List n = λ p m ns o us h. h
 given c w at q bang _ n = tt
 
 pub called : (c : Context) (w : Live) (at : Position) (q : Bool) (v : Calling) (n : Lexeme)
-    → KeepsIn (R.Called c w at q) (λ x us. Only (all_mentions x.1) us) (P.called_by c w at q v) n [] []
+    → KeepsIn (R.In (R.Called at q) c w) (λ x us. Only (all_mentions x.1) us) (P.called_by c w at q v) n [] []
 unfolding mentions
 called c w at q calls_by.Bang n = λ p m v e ok. given c w at q true v m
 called c w at q v n = given c w at q false v n
@@ -262,14 +262,14 @@ path_excludes false a b e = absurd cc
 -- after its path
 pub call_path : (c : Context) (w : Live) (y x : Node) (l n : Lexeme) (us : List Text)
     → (is_variable y && excludes_use l) ≡ true → Only [] us → Silent (mentions x)
-    → KeepsIn (R.Postfix c w y) (λ z ns. More (uncalled y l) (mentions z) ns) (P.call_of c w x) n [] us
+    → KeepsIn (R.In (R.Postfix y) c w) (λ z ns. More (uncalled y l) (mentions z) ns) (P.call_of c w x) n [] us
 call_path c w y x l n us e q s = (
   λ is call m vs k fault. replaced (mentions y) _ e (after q (call_read x call.0 call.1 k)),
   λ is. replaced (mentions y) _ e (read_none q s),
 )
 
 pub call_of : (c : Context) (w : Live) (x : Node) (n : Lexeme) → (is_variable x && qualifies n) ≡ false
-    → KeepsIn (R.Postfix c w x) (λ z us. More (uncalled x n) (mentions z) us) (P.call_of c w x) n [] []
+    → KeepsIn (R.In (R.Postfix x) c w) (λ z us. More (uncalled x n) (mentions z) us) (P.call_of c w x) n [] []
 call_of c w x n q = (
   λ e call m vs k fault.
       replaced (mentions x) _ (call_excludes (is_variable x) (calls n) (qualifies n) e) (call_read x call.0 call.1 k),
@@ -299,11 +299,11 @@ parted h R parts more end after.Close n own names f g = λ at m. g m
 parted h R parts more end after.Nothing n own names f g = tt
 
 pub element : (c : Context) (w : Live) (opening : Position) (before : Nodes) (v : ItemRole) (n : Lexeme)
-    → KeepsIn (R.Elements c w opening before) (λ xs us. More (all_mentions before) (all_mentions xs) us)
+    → KeepsIn (R.In (R.Elements opening before) c w) (λ xs us. More (all_mentions before) (all_mentions xs) us)
     (P.element_by c w opening before v) n [] []
 element c w opening before place.End n = λ at m. unchanged (all_mentions before)
 element c w opening before place.Item n = λ room x m us h v e.
-    parted (R.Elements c w opening before) (λ xs us. More (all_mentions before) (all_mentions xs) us) lists.Array
+    parted (R.In (R.Elements opening before) c w) (λ xs us. More (all_mentions before) (all_mentions xs) us) lists.Array
     _ _ v m [] us (λ o xs q vs k. on (one_node before x h) k) (λ o. one_node before x h)
 element c w opening before place.Nothing n = tt
 
@@ -315,11 +315,11 @@ key c before (NoKey why) n = tt
 
 pub field : (c : Context) (w : Live) (opening : Position) (before : Properties) (v : Option (Text × Position))
     (n : Lexeme) (us : List Text) → Only [] us
-    → KeepsIn (R.Fields c w opening before) (λ xs us. More (property_mentions before) (property_mentions xs) us)
+    → KeepsIn (R.In (R.Fields opening before) c w) (λ xs us. More (property_mentions before) (property_mentions xs) us)
     (P.field_by c w opening before v) n [] us
 field c w opening before None n us q = still q
 field c w opening before (Some k) n us q = λ room x m vs h v e.
-    parted (R.Fields c w opening before) (λ xs us. More (property_mentions before) (property_mentions xs) us) lists.Map
+    parted (R.In (R.Fields opening before) c w) (λ xs us. More (property_mentions before) (property_mentions xs) us) lists.Map
     _ _ v m [] (us ++ vs)
     (λ o xs p ws g. on (after q (one_property before k.0 k.1 x h)) g) (λ o. after q (one_property before k.0 k.1 x h))
 
@@ -331,11 +331,11 @@ follower filter Other n = none
 
 pub binary : (c : Context) (w : Live) (at : Position) (parent : ℕ) (lhs : Node) (v : Option (ℕ × Bool)) (n : Lexeme)
     (us : List Text) → Only [] us
-    → KeepsIn (R.BinaryOp c w at parent lhs) (λ x us. More (mentions lhs) (mentions x) us)
+    → KeepsIn (R.In (R.BinaryOp at parent lhs) c w) (λ x us. More (mentions lhs) (mentions x) us)
     (P.binary_of c w at parent lhs v) n [] us
 binary c w at parent lhs None n us q = still q
 binary c w at parent lhs (Some op) n us q =
-    by_either (R.BinaryOp c w at parent lhs) (λ x m us. More (mentions lhs) (mentions x) us)
+    by_either (R.In (R.BinaryOp at parent lhs) c w) (λ x m us. More (mentions lhs) (mentions x) us)
     (continues parent op.0 op.1) _ _ n [] us
     (λ pos m y o vs h v next ws u room r a ts k left rite x b rs g.
     on (operator (joining n) n pos lhs r (on (on (after q h) (still u)) k)) g)

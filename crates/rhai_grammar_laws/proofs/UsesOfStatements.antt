@@ -41,20 +41,20 @@ use Rattle.rhai_grammar_laws.proofs.UsesOfOperands.{KeepsIn, by_either, parted}
 -- ---- statements
 
 pub export : (c : Context) (w : Live) (at : Position) (v : Option Bool) (n : Lexeme)
-    → KeepsIn (R.Export c w at) (λ f us. Only (statement_mentions f.0) us) (P.export_by c w at v) n [] []
+    → KeepsIn (R.In (R.Export at) c w) (λ f us. Only (statement_mentions f.0) us) (P.export_by c w at v) n [] []
 unfolding mentions
 export c w at (Some constant) n = λ room pos m f o us h. h
 export c w at None n = λ is p m other o us u. u
 
 pub documented : (c : Context) (w : Live) (comments : List Comment) (at : Position) (v : StatementStart) (n : Lexeme)
     (us : List Text) → Only [] us
-    → KeepsIn (R.Statement c w) (λ f ns. Only (statement_mentions f.0) ns) (P.documented_by c w comments at v) n [] us
+    → KeepsIn (R.In R.Statement c w) (λ f ns. Only (statement_mentions f.0) ns) (P.documented_by c w comments at v) n [] us
 documented c w comments at start.Function n us q = λ p m f o vs h. after q h
 documented c w comments at start.Private n us q = λ p m is s o f a vs h. after q h
 documented c w comments at _ n us q = λ e. absurd cc
 
 pub statement : (c : Context) (w : Live) (v : StatementStart) (n : Lexeme)
-    → KeepsIn (R.Statement c w) (λ f us. Only (statement_mentions f.0) us) (P.statement_by c w v) n [] []
+    → KeepsIn (R.In R.Statement c w) (λ f us. Only (statement_mentions f.0) us) (P.statement_by c w v) n [] []
 unfolding mentions
 statement c w start.Empty n = λ at m. none
 statement c w (start.Construct kind) n = λ at m a b f o us h. h
@@ -76,19 +76,19 @@ ListRight before fs us = More (statements_mentions before) (statements_mentions 
 
 separated : (closing : Closing) (c : Context) (w v : Live) (before fs : node.Statements) (y : AfterStatement)
     (n : Lexeme) (us : List Text) → More (statements_mentions before) (statements_mentions fs) us
-    → KeepsIn (R.Statements closing c w before) (ListRight before) (P.separated closing c v fs y) n [] us
+    → KeepsIn (R.In (R.Statements closing before) c w) (ListRight before) (P.separated closing c v fs y) n [] us
 separated closing c w v before fs ends.SemiColon n us h = λ at m gs o vs k. on h k
 separated closing c w v before fs ends.Close n us h = h
 separated closing c w v before fs ends.Nothing n us h = tt
 
 after_one : (closing : Closing) (c : Context) (w v : Live) (before fs : node.Statements) (b : Bool) (n : Lexeme)
     (us : List Text) → More (statements_mentions before) (statements_mentions fs) us
-    → KeepsIn (R.Statements closing c w before) (ListRight before) (P.after_one closing c v fs b) n [] us
+    → KeepsIn (R.In (R.Statements closing before) c w) (ListRight before) (P.after_one closing c v fs b) n [] us
 after_one closing c w v before fs true n us h = λ gs m vs k. on h k
 after_one closing c w v before fs false n us h = λ y e. separated closing c w v before fs y n us h
 
 pub statements : (closing : Closing) (c : Context) (w : Live) (fs : node.Statements) (v : StatementRole) (n : Lexeme)
-    → KeepsIn (R.Statements closing c w fs) (ListRight fs) (P.statements closing c w fs v) n [] []
+    → KeepsIn (R.In (R.Statements closing fs) c w) (ListRight fs) (P.statements closing c w fs v) n [] []
 statements closing c w fs stands.Close n = unchanged (statements_mentions fs)
 statements closing c w fs stands.Statement n = λ f m us h.
     after_one closing c w f.1 fs (with_kept fs f.0) (ends_itself f.0) m us (one_statement fs f.0 h)
@@ -97,7 +97,7 @@ statements closing c w fs stands.Nothing n = tt
 -- ---- constructs
 
 pub inside : (c : Context) (w : Live) (b : Bool) (n : Lexeme)
-    → KeepsIn (R.Inside c w) (λ fs us. Only (statements_mentions fs) us) (P.inside_by c w b) n [] []
+    → KeepsIn (R.In R.Inside c w) (λ fs us. Only (statements_mentions fs) us) (P.inside_by c w b) n [] []
 unfolding mentions
 inside c w true n = λ f m us h. same (append-nil (statement_mentions f)) h
 inside c w false n = λ fs m us h. h
@@ -107,7 +107,7 @@ do_end None n = tt
 do_end (Some b) n = λ at m. none
 
 pub arms : (c : Context) (w : Live) (before : Collected) (v : ArmRole) (n : Lexeme)
-    → KeepsIn (R.Arms c w before) (λ x us. More (collected_mentions before) (collected_mentions x) us)
+    → KeepsIn (R.In (R.Arms before) c w) (λ x us. More (collected_mentions before) (collected_mentions x) us)
     (P.arms_by c w before v) n [] []
 arms c w before role.Case n = λ a m us h x o vs k. on (arm before a.0 a.1 a.2 h.0 h.1) k
 arms c w before role.Default n = λ at m x o us h. default_arm before x h
@@ -115,7 +115,7 @@ arms c w before role.Close n = λ at m. unchanged (collected_mentions before)
 arms c w before role.Nothing n = tt
 
 pub action : (c : Context) (w : Live) (b : Bool) (n : Lexeme)
-    → KeepsIn (R.Action c w) (λ x us. Only (mentions x.0) us) (P.action_by c w b) n [] []
+    → KeepsIn (R.In R.Action c w) (λ x us. Only (mentions x.0) us) (P.action_by c w b) n [] []
 action c w true n = λ x m us h. h
 action c w false n = (λ e. tt, λ e f m us h. valued f.0 h)
 
@@ -156,8 +156,8 @@ used_after slots (u ∷ us) names = used_after slots us (names ++ free_name fals
 
 captured : (c : Context) (w : Live) (at : Position) (by : Bars) (Q : Node → List Text → Type 0) (us : List Use)
     (p : Production Node) (n : Lexeme) (own names : List Text)
-    → KeepsIn (R.Closure c w at by) Q p n own (used_after w.slots us names)
-    → KeepsIn (R.Closure c w at by) Q (P.captured us c w p) n own names
+    → KeepsIn (R.In (R.Closure at by) c w) Q p n own (used_after w.slots us names)
+    → KeepsIn (R.In (R.Closure at by) c w) Q (P.captured us c w p) n own names
 captured c w at by Q [] p n own names h = h
 captured c w at by Q (u ∷ us) p n own names h =
     captured c w at by Q us p n own (names ++ free_name false u w.slots) h
@@ -194,12 +194,12 @@ closure at i (u ∷ us) own w names q =
 
 closure_of : (c : Context) (w : Live) (at : Position) (by : Bars) (ns : List Text) (n : Lexeme) (names : List Text)
     → Only [] names
-    → KeepsIn (R.Closure c w at by) (λ x us. Only (mentions x) us) (P.closure_of c w at ns) n [] names
+    → KeepsIn (R.In (R.Closure at by) c w) (λ x us. Only (mentions x) us) (P.closure_of c w at ns) n [] names
 closure_of c w at by ns n names q = λ room f us i m own h.
     captured c w at by (λ x us. Only (mentions x) us) us _ m own names
     (same (made f) h, closure at i us ns w names q)
 
 pub closure_by : (c : Context) (w : Live) (at : Position) (by v : Bars) (n : Lexeme)
-    → KeepsIn (R.Closure c w at by) (λ x us. Only (mentions x) us) (P.closure_by c w at v) n [] []
+    → KeepsIn (R.In (R.Closure at by) c w) (λ x us. Only (mentions x) us) (P.closure_by c w at v) n [] []
 closure_by c w at by bars.Pair n = closure_of c w at by [] n [] none
 closure_by c w at by bars.List n = λ ns m us u. closure_of c w at by ns m us u

@@ -32,7 +32,7 @@ free_name excluded u slots = if excluded || is_some (number u.name slots) then [
 -- Which names of a part are read in the form around it, too: none if the part is called by the tokens after it, or if
 -- it is a function.
 abbrev names_outside : (g : Goal) → Val g → (after : List Taken) → List Text → List Text
-names_outside (R.Primary c w) x after names = if is_called_by after x then [] else names
+names_outside (R.In R.Primary c w) x after names = if is_called_by after x then [] else names
 names_outside (R.Function c comments at is_private) x after names = []
 names_outside _ x after names = names
 
@@ -75,7 +75,7 @@ ends_on us vs = free_on (ends_of us) vs ∙ ap (λ ns. ns ++ free_names vs) (fre
 
 free_outside : (g : Goal) (x : Val g) (after : List Taken) (us : List UseOrEnd)
     → free_names (outside g x after us) ≡ names_outside g x after (free_names us)
-free_outside (R.Primary c w) x after us = by (is_called_by after x)
+free_outside (R.In R.Primary c w) x after us = by (is_called_by after x)
   where
     by : (b : Bool) → free_names (if b then called_in us else us) ≡ (if b then [] else free_names us)
     by true = free_called us
@@ -103,7 +103,7 @@ unless_called called names = if called then [] else names
 -- the form around it.
 abbrev Passes : (h g : Goal) → Val g → Production (Val h) → (next : Lexeme) → (own names part : List Text)
     → ((own names : List Text) → Type 0) → Type 0
-Passes h (R.Primary c w) x p next own names us K =
+Passes h (R.In R.Primary c w) x p next own names us K =
     IsFollowed h p x next × K own (names ++ unless_called (is_variable x && excludes_use next) us)
 Passes h (R.Function c comments at is_private) x p next own names us K = K us (names ++ [])
 Passes h _ x p next own names us K = K own (names ++ us)
@@ -173,7 +173,7 @@ module _ (Right : (g : Goal) → Val g → (first next : Lexeme) → (names : Li
       (k : Demands) (s t : Point) → Met (F.demanded production f k) s t → (own names us : List Text)
       (K : List Text → List Text → Type 0) → Passes h g x p (op_at s) own names us K
       → K (own_names g us own) (names ++ names_outside g x (spelling_in production f) us)
-  through (R.Primary c w) x {y = y} f k s t m own names us K h =
+  through (R.In R.Primary c w) x {y = y} f k s t m own names us K h =
       subst (λ b. K own (names ++ (if b then [] else us))) (sym (h.0 y f k s t m refl)) h.1
   through (R.Function c comments at is_private) x f k s t m own names us K h = h
   through _ x f k s t m own names us K h = h

@@ -203,7 +203,7 @@ used within excluded free u slots es us e h = record {
 parted : (within : Bool) (g : Goal) (x : Val g) (ts : List Taken) (es : List Event) (us : List UseOrEnd)
     → (Stands within g → Joins within es us) → (Stands false g → Joins false es us) → PartStands within g
     → Joins within es (outside g x ts us)
-parted within (R.Primary c w) x ts es us h k p = by (is_called_by ts x) (h p)
+parted within (R.In R.Primary c w) x ts es us h k p = by (is_called_by ts x) (h p)
   where
     by : (b : Bool) → Joins within es us → Joins within es (if b then called_in us else us)
     by true j = called within es us j
@@ -264,7 +264,7 @@ nothing_is_captured g x f o s t m =
 -- ---- an operand that is a name, and a closure
 
 named : {c : Context} {w : Live} {x : Node}
-    (f : D.Filled production (R.Primary c w) (P.primary_by c w begin.Name) x) (s t : Point)
+    (f : D.Filled production (R.In R.Primary c w) (P.primary_by c w begin.Name) x) (s t : Point)
     → Met (D.demanded production f Nothing) s t → uses_of production f ≡ use_of
     (excludes_use (next_at code t).lexeme)
     (record { name = text_of (next_at code s).lexeme; at = (next_at code s).at }) w.slots
@@ -282,7 +282,7 @@ Ending us c w new why e y = P.captured us c w (knows new why (adds e (give y)))
 
 handed : {c : Context} {w : Live} {at : Position} {b : Bars} {x : Node} (us : List Use) (new : Library → Bool)
     (why : Refusal) (e : Ended) (y : Node)
-    (f : D.Filled production (R.Closure c w at b) (Ending us c w new why e y) x)
+    (f : D.Filled production (R.In (R.Closure at b) c w) (Ending us c w new why e y) x)
     → uses_of production f ≡ used_there w.slots us ++ IsEnd e ∷ []
 handed [] new why e y (D.knows (D.adds D.given)) = refl
 handed {w = w} (u ∷ us) new why e y (D.captures f) = ap (λ xs. use_of false u w.slots ++ xs) (handed us new why e y f)
@@ -331,7 +331,7 @@ silent_list (R.Parameters parts function before) i = λ v. parameter parts funct
 silent_list _ i = absurd i
 
 no_part : (g : Goal) (x : Val g) (ts : List Taken) (us : List UseOrEnd) → us ≡ [] → outside g x ts us ≡ []
-no_part (R.Primary c w) x ts us e = by (is_called_by ts x)
+no_part (R.In R.Primary c w) x ts us e = by (is_called_by ts x)
   where
     by : (b : Bool) → (if b then called_in us else us) ≡ []
     by true = ap called_in e
@@ -375,14 +375,14 @@ mutual
 -- ---- closures
 
 closure_of : {c : Context} {w : Live} {at : Position} {b : Bars} {x : Node} (own : List Text)
-    (f : D.Filled production (R.Closure c w at b) (P.closure_of c w at own) x)
+    (f : D.Filled production (R.In (R.Closure at b) c w) (P.closure_of c w at own) x)
     → uses_of production f ≡ ends_of (body_of own f).uses
     ++ (used_there w.slots (body_of own f).captured ++ IsEnd (Z.closure_of own f).ended ∷ [])
 closure_of own (D.must (D.apart v us n body rest)) =
     ap (λ xs. ends_of (uses_in production body) ++ xs) (handed us _ _ _ _ rest)
 
 closure_by : {c : Context} {w : Live} {at : Position} {b : Bars} {x : Node} (by : Bars)
-    (f : D.Filled production (R.Closure c w at b) (P.closure_by c w at by) x)
+    (f : D.Filled production (R.In (R.Closure at b) c w) (P.closure_by c w at by) x)
     → uses_of production f ≡ ends_of (body_by by f).uses
     ++ (used_there w.slots (body_by by f).captured ++ IsEnd (Z.closure_by by f).ended ∷ [])
 closure_by bars.Pair f = closure_of [] f
@@ -390,7 +390,7 @@ closure_by bars.List (D.part own list f) =
     ap (λ xs. xs ++ uses_of production f) (nothing_in list tt) ∙ closure_of own f
 
 closure : {c : Context} {w : Live} {at : Position} {by : Bars} {x : Node}
-    (f : D.Form production (R.Closure c w at by) x)
+    (f : D.Form production (R.In (R.Closure at by) c w) x)
     → uses_in production f ≡ ends_of (closure_body f).uses
     ++ (used_there w.slots (closure_body f).captured ++ IsEnd (closure_parts f).ended ∷ [])
 closure {by = by} (D.form (D.knows f)) = closure_by by f
@@ -406,7 +406,7 @@ names_are_used = record {
 -- ---- what a closure captures
 
 captured_of : {c : Context} {w : Live} {at : Position} {b : Bars} {x : Node} (own : List Text)
-    (f : D.Filled production (R.Closure c w at b) (P.closure_of c w at own) x) (s t : Point)
+    (f : D.Filled production (R.In (R.Closure at b) c w) (P.closure_of c w at own) x) (s t : Point)
     → Met (D.demanded production f Nothing) s t
     → (body_of own f).captured ≡ first_uses (outer_uses (body_of own f).uses s.library)
 captured_of {c = c} {w = w} own (D.must (D.apart v us n body rest)) s t m =
@@ -414,7 +414,7 @@ captured_of {c = c} {w = w} own (D.must (D.apart v us n body rest)) s t m =
     ∙ ap first_uses ((joined true body (in_one c w)).uses s.library)
 
 captured_by : {c : Context} {w : Live} {at : Position} {b : Bars} {x : Node} (by : Bars)
-    (f : D.Filled production (R.Closure c w at b) (P.closure_by c w at by) x) (s t : Point)
+    (f : D.Filled production (R.In (R.Closure at b) c w) (P.closure_by c w at by) x) (s t : Point)
     → Met (D.demanded production f Nothing) s t
     → (body_by by f).captured ≡ first_uses (outer_uses (body_by by f).uses s.library)
 captured_by bars.Pair f s t m = captured_of [] f s t m
@@ -425,7 +425,7 @@ captured_by bars.List (D.part own list f) s t m =
     ∙ ap (λ us. functions_after us s.library) (nothing_in list tt))
 
 captured : {c : Context} {w : Live} {at : Position} {by : Bars} {x : Node}
-    (f : D.Form production (R.Closure c w at by) x) (s t : Point) → Met (D.demands production f Nothing) s t
+    (f : D.Form production (R.In (R.Closure at by) c w) x) (s t : Point) → Met (D.demands production f Nothing) s t
     → (closure_body f).captured ≡ first_uses (outer_uses (closure_body f).uses s.library)
 captured {by = by} (D.form (D.knows f)) s t m = captured_by by f s t m.1
 

@@ -26,8 +26,8 @@ use Rattle.rhai_grammar_laws.proofs.Keeping.{holds, trivially}
 use Rattle.rhai_grammar_laws.proofs.Passing.{leaves_its}
 
 abbrev EndsRight : (g : Goal) → Val g → (first next : Lexeme) → Type 0
-EndsRight (R.Whole c w) x l n = is_end n ≡ true
-EndsRight (R.Statements EndMark c w before) fs l n = is_end n ≡ true
+EndsRight (R.In R.Whole c w) x l n = is_end n ≡ true
+EndsRight (R.In (R.Statements EndMark before) c w) fs l n = is_end n ≡ true
 EndsRight _ x l n = Unit {0}
 
 abbrev Good : Ended → Type 0
@@ -62,8 +62,8 @@ statements c w fs stands.Statement n e = λ f m h. after_one c f.1 (with_kept fs
 statements c w fs stands.Nothing n e = tt
 
 table : (g : Goal) (n : Lexeme) → Keeps EndsRight Good (λ x next. EndsRight g x n next) (production g) n
-table (R.Whole c w) n = λ x m h. (λ e. e, λ e. tt)
-table (R.Statements EndMark c w before) n = λ v e. statements c w before v n e
+table (R.In R.Whole c w) n = λ x m h. (λ e. e, λ e. tt)
+table (R.In (R.Statements EndMark before) c w) n = λ v e. statements c w before v n e
 table g n = trivially EndsRight (λ x next. Unit {0}) (production g) n (λ x m. tt)
 
 -- ---- delivered streams

@@ -7,7 +7,7 @@ use Rattle.rhai_grammar.specs.Prelude.{Chain, Context, Lexeme, Link, Live, Node,
 use Rattle.rhai_grammar.specs.Prelude.{node_shape}
 use Rattle.rhai_grammar.specs.declared.role.Beginning.{Beginning}
 use Rattle.rhai_grammar.specs.declared.role.Beginning.TheVariants as begin
-use Rattle.rhai_grammar.specs.Goals.{BinaryOp, Expression, Goal, Links, Operand, Postfix, Primary, Val}
+use Rattle.rhai_grammar.specs.Goals.{In, BinaryOp, Expression, Goal, Links, Operand, Postfix, Primary, Val}
 use Rattle.rhai_grammar.specs.Productions.{Production}
 use Rattle.rhai_grammar.specs.Rules as P
 use Rattle.rhai_grammar.specs.Rules.{production}
@@ -68,14 +68,14 @@ pub record WrittenChain : Type 0 where
 
 -- the chain of an operand, but for one with a sign
 abbrev pub chain_by : (v : Beginning) {context : Context} {live : Live} {x : Node}
-    → Filled production (Operand context live) (P.operand_by context live v) x → Option WrittenChain
+    → Filled production (In Operand context live) (P.operand_by context live v) x → Option WrittenChain
 chain_by begin.Sign f = None
 chain_by _ {context} {live} (part p primary (part y postfix (part links more rest))) = Some (record {
   chain = record { root = y; links = links };
-  written = piece (Primary context live) p primary ∷ piece (Postfix context live p) y postfix ∷ pieces more;
+  written = piece (In Primary context live) p primary ∷ piece (In (Postfix p) context live) y postfix ∷ pieces more;
 })
 
-abbrev pub chain_in : {context : Context} {live : Live} {x : Node} → Form production (Operand context live) x
+abbrev pub chain_in : {context : Context} {live : Live} {x : Node} → Form production (In Operand context live) x
     → Option WrittenChain
 chain_in (form (choose l at f)) = chain_by (beginning l) f
 
@@ -83,28 +83,28 @@ chain_in (form (choose l at f)) = chain_by (beginning l) f
 
 -- this, where no operator follows an operand
 abbrev pub unless_operated : {context : Context} {live : Live} {at : Position} {parent : ℕ} {lhs x : Node}
-    → Form production (BinaryOp context live at parent lhs) x → Option WrittenChain → Option WrittenChain
+    → Form production (In (BinaryOp at parent lhs) context live) x → Option WrittenChain → Option WrittenChain
 unless_operated (form (part None next f)) chain = chain
 unless_operated (form (part (Some op) next f)) chain = None
 
 -- this, where nothing calls a primary or goes on with a path
 abbrev pub unless_called : {context : Context} {live : Live} {p x : Node}
-    → Form production (Postfix context live p) x → Option WrittenChain → Option WrittenChain
+    → Form production (In (Postfix p) context live) x → Option WrittenChain → Option WrittenChain
 unless_called (form (if_not (if_not f))) chain = chain
 unless_called _ chain = None
 
 -- the chain of an expression that is no more
-abbrev pub chain_alone : {context : Context} {live : Live} {x : Node} → Form production (Expression context live) x
+abbrev pub chain_alone : {context : Context} {live : Live} {x : Node} → Form production (In Expression context live) x
     → Option WrittenChain
 chain_alone (form (here l at (must (part y operand (part x run rest))))) = unless_operated run (chain_in operand)
 
 -- the chain in a primary, if that is `(`, a chain and `)`
 abbrev pub group_by : (v : Beginning) {context : Context} {live : Live} {x : Node}
-    → Filled production (Primary context live) (P.primary_by context live v) x → Option WrittenChain
+    → Filled production (In Primary context live) (P.primary_by context live v) x → Option WrittenChain
 group_by begin.Group (this l at (must (part x inside closing))) = chain_alone inside
 group_by _ f = None
 
-abbrev pub group_in : {context : Context} {live : Live} {x : Node} → Form production (Primary context live) x
+abbrev pub group_in : {context : Context} {live : Live} {x : Node} → Form production (In Primary context live) x
     → Option WrittenChain
 group_in (form (choose l at f)) = group_by (beginning l) f
 
@@ -119,19 +119,19 @@ with_links (Some x) links more = Some (record {
 -- What an operand is without the two parentheses, if it is a chain in parentheses and perhaps more links: the chain
 -- inside, and the links after it.
 abbrev pub ungrouped_by : (v : Beginning) {context : Context} {live : Live} {x : Node}
-    → Filled production (Operand context live) (P.operand_by context live v) x → Option WrittenChain
+    → Filled production (In Operand context live) (P.operand_by context live v) x → Option WrittenChain
 ungrouped_by begin.Sign f = None
 ungrouped_by _ (part p primary (part y postfix (part links more rest))) =
     with_links (unless_called postfix (group_in primary)) links (pieces more)
 
-abbrev pub ungrouped : {context : Context} {live : Live} {x : Node} → Form production (Operand context live) x
+abbrev pub ungrouped : {context : Context} {live : Live} {x : Node} → Form production (In Operand context live) x
     → Option WrittenChain
 ungrouped (form (choose l at f)) = ungrouped_by (beginning l) f
 
 -- The second form is the first, a chain in parentheses and perhaps more links, without the two parentheses: what is
 -- written is alike but for these.
 pub record IsWithoutParentheses {context : Context} {live : Live} {a b : Node}
-    (f : Form production (Operand context live) a) (e : Form production (Operand context live) b)
+    (f : Form production (In Operand context live) a) (e : Form production (In Operand context live) b)
     : Type 0
   where
     pub grouped : WrittenChain
@@ -153,12 +153,12 @@ pub record HasTwoMore (shorter longer : List Lexeme) : Type 0 where
 -- without the two parentheses, and the same tokens but for two. That holds whether the forms fit or not. In the tree of
 -- either form the links, in written order, follow the root.
 pub record ChainsAreJoined : Type 0 where
-  pub same_shape : (context : Context) (live : Live) (a b : Node) (f : Form production (Operand context live) a)
-      (e : Form production (Operand context live) b) → IsWithoutParentheses f e → node_shape a ≡ node_shape b
-  pub same_tokens : (context : Context) (live : Live) (a b : Node) (f : Form production (Operand context live) a)
-      (e : Form production (Operand context live) b) → IsWithoutParentheses f e
+  pub same_shape : (context : Context) (live : Live) (a b : Node) (f : Form production (In Operand context live) a)
+      (e : Form production (In Operand context live) b) → IsWithoutParentheses f e → node_shape a ≡ node_shape b
+  pub same_tokens : (context : Context) (live : Live) (a b : Node) (f : Form production (In Operand context live) a)
+      (e : Form production (In Operand context live) b) → IsWithoutParentheses f e
       → HasTwoMore (lexemes (spelling production e)) (lexemes (spelling production f))
-  pub grouped : (context : Context) (live : Live) (a : Node) (f : Form production (Operand context live) a)
+  pub grouped : (context : Context) (live : Live) (a : Node) (f : Form production (In Operand context live) a)
       (x : WrittenChain) → ungrouped f ≡ Some x → a ≡ chained x.chain.root x.chain.links
-  pub plain : (context : Context) (live : Live) (b : Node) (e : Form production (Operand context live) b)
+  pub plain : (context : Context) (live : Live) (b : Node) (e : Form production (In Operand context live) b)
       (x : WrittenChain) → chain_in e ≡ Some x → b ≡ chained x.chain.root x.chain.links

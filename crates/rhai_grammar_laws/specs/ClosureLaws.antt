@@ -6,7 +6,7 @@ use Rattle.rhai_grammar.specs.Prelude.{Text, Position, Context, Live, Ended, Poi
 use Rattle.rhai_grammar.specs.Prelude.{ended_closure, names_of, is_among, is_function, number}
 use Rattle.rhai_grammar.specs.Settings.{in_closure}
 use Rattle.rhai_grammar.specs.declared.role.Bars.{Bars}
-use Rattle.rhai_grammar.specs.Goals.{Closure}
+use Rattle.rhai_grammar.specs.Goals.{In, Closure}
 use Rattle.rhai_grammar.specs.Rules.{production}
 use Rattle.rhai_grammar.specs.Events.{ended_in, events}
 use Rattle.rhai_grammar_laws.specs.Numbered.{ClosureParts, closure_parts}
@@ -45,7 +45,7 @@ AreDistinct before (name ∷ names) = (is_among name before ≡ false) × AreDis
 abbrev pub OfClosures : (Live → Position → Node → ClosureParts → List Ended → Type 0) → Type 0
 OfClosures P =
     (context : Context) (live : Live) (at : Position) (by : Bars) (x : Node)
-    (f : D.Form production (Closure context live at by) x)
+    (f : D.Form production (In (Closure at by) context live) x)
     → P live at x (closure_parts f) (ended_in (events production f))
 
 -- The parameters of a closure are the names that it captures, and then its own; its key has its name by number and
@@ -67,7 +67,7 @@ pub record ParametersAreCaptured : Type 0 where
 abbrev pub OfThoseThatFit : (Context → Live → ClosureParts → Point → Type 0) → Type 0
 OfThoseThatFit P =
     (context : Context) (live : Live) (at : Position) (by : Bars) (x : Node)
-    (f : D.Form production (Closure context live at by) x) (s t : Point) → Met (D.demands production f Nothing) s t
+    (f : D.Form production (In (Closure at by) context live) x) (s t : Point) → Met (D.demands production f Nothing) s t
     → P context live (closure_parts f) t
 
 -- A closure that fits captures each name once. Where it ends in a closure, a name that it captures has a slot there, or

@@ -10,7 +10,7 @@ use Rattle.rhai_grammar.specs.Seen.{StandsAtLast}
 use Rattle.rhai_grammar.specs.declared.error.ParseError.{ParseError}
 use Rattle.rhai_grammar_reading.specs.Histories.{State, Done, Refused, Runs, calls}
 use Rattle.rhai_grammar_reading.specs.Nesting.{Nesting}
-use Rattle.rhai_grammar.specs.Goals.{Goal, Val, Whole, Script}
+use Rattle.rhai_grammar.specs.Goals.{In, Goal, Val, Whole, Script}
 use Rattle.rhai_grammar_reading.specs.Reading.{body}
 use Rattle.rhai_grammar_reading.specs.Running as running
 use Rattle.rhai_grammar_reading.specs.Running.{Gives, Progress, result_of}
@@ -77,5 +77,5 @@ IsPromised g =
 
 -- So it is for whole expressions and for scripts.
 pub record EntriesArePromised : Type 0 where
-  pub expression : (context : Context) (live : Live) → IsPromised (Whole context live)
+  pub expression : (context : Context) (live : Live) → IsPromised (In Whole context live)
   pub script : (context : Context) (live : Live) → IsPromised (Script context live)

@@ -5,7 +5,7 @@ use Rattle.rhai_grammar.specs.Prelude.{Text, Context, Live, Mode, Point, Refusal
 use Rattle.rhai_grammar.specs.Prelude.{ended_closure, in_closure, is_new, level_up, made_block, parameters_live}
 use Rattle.rhai_grammar.specs.LibraryLaws.{duplicates_closure}
 use Rattle.rhai_grammar.specs.NumberedLibraries.{IsOrderly}
-use Rattle.rhai_grammar.specs.Goals.{ClosureBody, Goal, Val, Whole, Script}
+use Rattle.rhai_grammar.specs.Goals.{In, ClosureBody, Goal, Val, Whole, Script}
 use Rattle.rhai_grammar.specs.Productions.{give}
 use Rattle.rhai_grammar.specs.Rules as P
 use Rattle.rhai_grammar.specs.Rules.{production}
@@ -29,11 +29,11 @@ pub record FormsKeepOrder (context : Context) (g : Goal) : Type 0 where
 -- of the names that it captures, it is new.
 pub record LibrariesStayOrderly : Type 0 where
   pub empty : (limit : ℕ) → IsOrderly limit 0 []
-  pub expression : (context : Context) (live : Live) → FormsKeepOrder context (Whole context live)
+  pub expression : (context : Context) (live : Live) → FormsKeepOrder context (In Whole context live)
   pub script : (context : Context) (live : Live) → FormsKeepOrder context (Script context live)
   pub closure_key : (context : Context) (live : Live) (own : List Text) (body : node.Statement) (n : ℕ)
       (captured : List Use)
-      (f : D.Form production (ClosureBody (level_up (in_closure context live)) (parameters_live own)) body)
+      (f : D.Form production (In ClosureBody (level_up (in_closure context live)) (parameters_live own)) body)
       (h : Goal) (x y : Val h) (rest : D.Filled production h (P.captured captured context live (give y)) x)
       (s t : Point)
       → context.sizes.functions ≤ 2 ^ 64 → IsOrderly context.sizes.functions (context.begun + 1) s.library

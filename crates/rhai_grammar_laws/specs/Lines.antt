@@ -16,7 +16,7 @@ use Rattle.rhai_grammar.specs.Trees.{function_called}
 use Rattle.rhai_grammar.specs.declared.filter.ExprFilter.TheVariants.{All}
 use Rattle.rhai_grammar.specs.EntryContexts.{any_functions}
 use Rattle.rhai_grammar.specs.RowStreams.{unread}
-use Rattle.rhai_grammar.specs.Goals.{Goal, Whole, Script}
+use Rattle.rhai_grammar.specs.Goals.{In, Goal, Whole, Script}
 use Rattle.rhai_grammar.specs.Promises.{Written, written, tree_of, Unwritten, unwritten}
 
 -- ---- what is read
@@ -87,7 +87,7 @@ context_of e flags options = record {
 
 -- what an engine reads at its two kinds of entry points: one expression, and a script
 abbrev pub expression_by : Engine → Goal
-expression_by e = Whole (context_of e bit.expression_flags e.for_expressions) nothing_live
+expression_by e = In Whole (context_of e bit.expression_flags e.for_expressions) nothing_live
 
 abbrev pub script_by : Engine → Goal
 script_by e = Script (context_of e bit.global_level e.options) nothing_live

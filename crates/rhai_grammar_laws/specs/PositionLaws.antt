@@ -3,7 +3,7 @@ use Rattle.std.specs.Prelude.{◌≡◌, List, [], ◌⊎◌, map, refl}
 use Rattle.rhai_grammar.specs.Prelude.{Context, Cursor, Library, Live, Missed, Mode, Point, Refusal, Taken}
 use Rattle.rhai_grammar.specs.Cursors.{next_item}
 use Rattle.rhai_grammar.specs.Promises.{IsNamed, Unwritten, unwritten}
-use Rattle.rhai_grammar.specs.Goals.{Goal, Whole, Script}
+use Rattle.rhai_grammar.specs.Goals.{In, Goal, Whole, Script}
 use Rattle.std.specs.List.{Contains}
 use Rattle.std.proofs.Math.Nat.{le_refl}
 use Rattle.rhai_lower.specs.Positions.{place}
@@ -40,5 +40,5 @@ pub record StandAtTokens (g : Goal) : Type 0 where
 
 -- So it is for whole expressions and for scripts.
 pub record RefusalsStandAtTokens : Type 0 where
-  pub expression : (context : Context) (live : Live) → StandAtTokens (Whole context live)
+  pub expression : (context : Context) (live : Live) → StandAtTokens (In Whole context live)
   pub script : (context : Context) (live : Live) → StandAtTokens (Script context live)

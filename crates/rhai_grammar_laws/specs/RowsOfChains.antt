@@ -15,7 +15,7 @@ use Rattle.rhai_grammar.specs.RowStreams.{between, depth, unread}
 use Rattle.rhai_grammar.specs.Trees.{variable_of}
 use Rattle.rhai_grammar.specs.Forms.{Form, choose, form, given, here, if_not, if_so, must, part, this, uses}
 use Rattle.rhai_grammar.specs.Forms.{checked_here}
-use Rattle.rhai_grammar.specs.Goals.{Operand}
+use Rattle.rhai_grammar.specs.Goals.{In, Operand}
 use Rattle.rhai_grammar.specs.Promises.{Unwritten, Written, tree_of}
 use Rattle.rhai_grammar.specs.Rules.{production}
 use Rattle.rhai_grammar_laws.specs.ChainForms.{IsWithoutParentheses}
@@ -49,7 +49,7 @@ questioned = record { negated = true; terminating = false }
 
 -- the first operand of a formula
 abbrev pub operand_of : {c : Context} → Written (formula c)
-    → (x : Node) × Form production (Operand (level_up c) nothing_live) x
+    → (x : Node) × Form production (In Operand (level_up c) nothing_live) x
 operand_of (x, form (part y (form (here l at (must (part z operand run)))) end)) = (z, operand)
 
 -- Index(x, Dot(y, Index(prop_a, Dot(z, prop_b)))), in which no bracket ends the chain, with the columns of the names

@@ -15,7 +15,7 @@ use Rattle.rhai_grammar.specs.Starts.{may_be_closure}
 use Rattle.rhai_grammar.specs.Trees.{variable_of}
 use Rattle.rhai_grammar.specs.Uses.{Use}
 use Rattle.rhai_grammar.specs.declared.role.Bars.TheVariants as bars
-use Rattle.rhai_grammar.specs.Goals.{Expression}
+use Rattle.rhai_grammar.specs.Goals.{In, Expression}
 use Rattle.rhai_grammar.specs.Promises.{Written, tree_of}
 use Rattle.rhai_grammar_laws.specs.RowsOfFunctions.{one_function}
 use Rattle.rhai_grammar_laws.specs.RowsOfStatements.{definition, integer, let_tokens}
@@ -116,7 +116,7 @@ abbrev pub slot_tokens : List (Lexeme × ℕ)
 slot_tokens = let_tokens 1 (codes "x") 5 7 1 9 10 ++ ((Sign token.Or, 12) ∷ (Name (codes "x"), 15) ∷ [])
 
 -- the closure alone, wherever it stands
-abbrev pub slot_closure : (c : Context) (w : Live) → Holds (may_be_closure c bars.Pair) → Written (Expression c w)
+abbrev pub slot_closure : (c : Context) (w : Live) → Holds (may_be_closure c bars.Pair) → Written (In Expression c w)
 slot_closure c w so = (
   _,
   bars_alone 12 so (names_at ((codes "x", 15) ∷ [])) 0 (doing (evaluates
@@ -143,7 +143,7 @@ slot_tree =
 pub record SlotRow : Type 0 where
   pub closure_is : (c : Context) (w : Live) (so : Holds (may_be_closure c bars.Pair))
       → w.slots ≡ record { name = codes "x"; constant = false; aliases = [] } ∷ []
-      → tree_of (Expression c w) (slot_closure c w so) ≡ slot_value
+      → tree_of (In Expression c w) (slot_closure c w so) ≡ slot_value
   pub tree_is : (tree_of (script with_closures) slot_form).0 ≡ slot_tree
   pub fits : Fits (script with_closures) slot_form (unread slot_tokens 16)
       (holding (giving 0 (codes "x" ∷ []) (handed None (codes "x") 15) ∷ []) (between slot_tokens [] 16))

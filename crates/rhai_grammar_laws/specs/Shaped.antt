@@ -4,7 +4,7 @@ use Rattle.rhai_lower.specs.Nodes as node
 use Rattle.rhai_grammar.specs.Prelude.{names_of, Context, Lexeme, Live, Node, Taken, node_shape}
 use Rattle.rhai_grammar.specs.Events.{spelling}
 use Rattle.rhai_grammar.specs.Shapes.{statements_shape}
-use Rattle.rhai_grammar.specs.Goals.{Goal, Val, Expression, Script}
+use Rattle.rhai_grammar.specs.Goals.{In, Goal, Val, Expression, Script}
 use Rattle.rhai_grammar.specs.Productions.{Production, view}
 use Rattle.rhai_grammar.specs.Rules.{production}
 use Rattle.rhai_grammar.specs.Forms as F
@@ -57,8 +57,8 @@ pub record TreesKeepShape : Type 0 where
   pub tokens : (g h : Goal) (x : Val g) (y : Val h) (f : F.Form production g x) (e : F.Form production h y)
       → Alike production f e → lexemes (spelling production f) ≡ lexemes (spelling production e)
   pub expression : (context : Context) (level : ℕ) (live : Live) (x y : Node)
-      (f : F.Form production (Expression context live) x)
-      (h : F.Form production (Expression (at_level level context) live) y) → Alike production f h
+      (f : F.Form production (In Expression context live) x)
+      (h : F.Form production (In Expression (at_level level context) live) y) → Alike production f h
       → node_shape x ≡ node_shape y
   pub script : (context : Context) (level : ℕ) (live : Live) (x y : node.Statements × Live)
       (f : F.Form production (Script context live) x)

@@ -21,7 +21,7 @@ use Rattle.rhai_grammar.specs.Forms as D
 abbrev pub OfNames : (Live → (name : Text) → Option ℕ → Point → Type 0) → Type 0
 OfNames Holds =
     (context : Context) (live : Live) (x : Node)
-    (f : D.Filled production (goal.Primary context live) (P.primary_by context live begin.Name) x) (s t : Point)
+    (f : D.Filled production (goal.In goal.Primary context live) (P.primary_by context live begin.Name) x) (s t : Point)
     → Met (D.demanded production f Nothing) s t → (name : Text) (at : Position) (number : Option ℕ)
     → x ≡ variable_of number name at → Holds live name number t
 
@@ -54,7 +54,7 @@ GivesBack before after = cut_to before after ≡ before
 abbrev pub OfLists : (begins : Live → Live) → (Live → Live → Type 0) → Type 0
 OfLists begins Holds =
     (closing : Closing) (context : Context) (live : Live) (fs : node.Statements) (x : node.Statements × Live)
-    → D.Form production (goal.Statements closing context (begins live) fs) x → Holds live x.1
+    → D.Form production (goal.In (goal.Statements closing fs) context (begins live)) x → Holds live x.1
 
 -- A construct and an expression leave live what was live before them. The statements of a block, of the body of `for`
 -- and of the block of `catch`, and the statement of an arm of `switch`, give back what was live before it, whatever
@@ -62,16 +62,16 @@ OfLists begins Holds =
 -- they were. The variables of `for` and of `catch` are in a block above all that was there.
 pub record ScopesClose : Type 0 where
   pub construct : (context : Context) (live : Live) (kind : Kind) (x : node.Statement × Live)
-      → D.Filled production (goal.Statement context live) (P.statement_by context live (start.Construct kind)) x
+      → D.Filled production (goal.In goal.Statement context live) (P.statement_by context live (start.Construct kind)) x
       → x.1 ≡ live
   pub expression : (context : Context) (live : Live) (x : node.Statement × Live)
-      → D.Filled production (goal.Statement context live) (P.statement_by context live start.Expression) x
+      → D.Filled production (goal.In goal.Statement context live) (P.statement_by context live start.Expression) x
       → x.1 ≡ live
   pub block : OfLists in_block GivesBack
   pub loop : (name : Text) (counter : Option Text) → OfLists (λ live. in_block (loop_live name counter live)) GivesBack
   pub handler : (name : Option Text) → OfLists (λ live. in_block (catch_live name live)) GivesBack
   pub arm : (context : Context) (live : Live) (x : node.Statement × Live)
-      → D.Form production (goal.Statement context (in_block live)) x → GivesBack live x.1
+      → D.Form production (goal.In goal.Statement context (in_block live)) x → GivesBack live x.1
   pub start : OfLists (λ live. live) (λ live after. after.block ≡ live.block)
   pub before : OfLists (λ live. live) (λ live after. live.block ≤ length live.slots
       → take live.block after.slots ≡ take live.block live.slots)

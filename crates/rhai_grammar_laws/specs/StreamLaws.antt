@@ -4,7 +4,7 @@ use Rattle.rhai_lower.specs.declared.position.Position.{Position}
 use Rattle.rhai_grammar.specs.Prelude.{Context, Live, Point, Met, Nothing}
 use Rattle.rhai_grammar.specs.Delivered.{Ends, IsDelivered}
 use Rattle.rhai_grammar.specs.Laws.{AreFair}
-use Rattle.rhai_grammar.specs.Goals.{Goal, Val, Whole, Script}
+use Rattle.rhai_grammar.specs.Goals.{In, Goal, Val, Whole, Script}
 use Rattle.rhai_grammar.specs.Rules.{production}
 use Rattle.rhai_grammar.specs.Forms as D
 use Rattle.rhai_grammar.specs.Promises.{written}
@@ -20,5 +20,5 @@ AreWhole g =
 
 -- After a whole expression or a script that fits and spells a delivered stream, the stream is at its end.
 pub record StreamsAreWhole : Type 0 where
-  pub expression : (context : Context) (live : Live) → AreWhole (Whole context live)
+  pub expression : (context : Context) (live : Live) → AreWhole (In Whole context live)
   pub script : (context : Context) (live : Live) → AreWhole (Script context live)

@@ -29,49 +29,49 @@ IsWithin within context = in_closure context.settings ≡ within
 
 -- So are those under which the goal is read, if it has any.
 abbrev pub Stands : (within : Bool) → Goal → Type 0
-Stands within (R.Whole context live) = IsWithin within context
-Stands within (R.Expression context live) = IsWithin within context
-Stands within (R.Operand context live) = IsWithin within context
-Stands within (R.RightOperand context live place) = IsWithin within context
-Stands within (R.Primary context live) = IsWithin within context
-Stands within (R.Called context live at q) = IsWithin within context
+Stands within (R.In R.Whole context live) = IsWithin within context
+Stands within (R.In R.Expression context live) = IsWithin within context
+Stands within (R.In R.Operand context live) = IsWithin within context
+Stands within (R.In (R.RightOperand place) context live) = IsWithin within context
+Stands within (R.In R.Primary context live) = IsWithin within context
+Stands within (R.In (R.Called at q) context live) = IsWithin within context
 Stands within (R.Links live spot) = IsWithin within spot.settings × IsWithin within spot.brackets
-Stands within (R.Index context live indexed) = IsWithin within context
-Stands within (R.Member context live) = IsWithin within context
-Stands within (R.Postfix context live y) = IsWithin within context
-Stands within (R.Arguments context live at) = IsWithin within context
-Stands within (R.Items context live before) = IsWithin within context
-Stands within (R.Elements context live at before) = IsWithin within context
-Stands within (R.Fields context live at before) = IsWithin within context
-Stands within (R.Segments context live at before) = IsWithin within context
-Stands within (R.Jump context live at) = IsWithin within context
-Stands within (R.BinaryOp context live at parent lhs) = IsWithin within context
-Stands within (R.ExprStatement context live) = IsWithin within context
-Stands within (R.Initializer context live at) = IsWithin within context
-Stands within (R.Definition context live at constant exported) = IsWithin within context
-Stands within (R.Import context live at) = IsWithin within context
-Stands within (R.Export context live at) = IsWithin within context
-Stands within (R.Statement context live) = IsWithin within context
-Stands within (R.Statements closing context live before) = IsWithin within context
-Stands within (R.Inside context live) = IsWithin within context
-Stands within (R.Block context live at) = IsWithin within context
-Stands within (R.Construct context live at kind) = IsWithin within context
-Stands within (R.Braced context live at) = IsWithin within context
-Stands within (R.Guard context live) = IsWithin within context
-Stands within (R.Iterated context live) = IsWithin within context
-Stands within (R.Conditional context live at) = IsWithin within context
-Stands within (R.Branch context live at) = IsWithin within context
-Stands within (R.Arms context live before) = IsWithin within context
-Stands within (R.Arm context live before) = IsWithin within context
-Stands within (R.DefaultArm context live default) = IsWithin within context
-Stands within (R.Cases context live before) = IsWithin within context
-Stands within (R.Case context live) = IsWithin within context
-Stands within (R.CaseGuard context live) = IsWithin within context
-Stands within (R.Action context live) = IsWithin within context
-Stands within (R.FunctionStatement context live comments first at is_private) = IsWithin within context
+Stands within (R.In (R.Index indexed) context live) = IsWithin within context
+Stands within (R.In R.Member context live) = IsWithin within context
+Stands within (R.In (R.Postfix y) context live) = IsWithin within context
+Stands within (R.In (R.Arguments at) context live) = IsWithin within context
+Stands within (R.In (R.Items before) context live) = IsWithin within context
+Stands within (R.In (R.Elements at before) context live) = IsWithin within context
+Stands within (R.In (R.Fields at before) context live) = IsWithin within context
+Stands within (R.In (R.Segments at before) context live) = IsWithin within context
+Stands within (R.In (R.Jump at) context live) = IsWithin within context
+Stands within (R.In (R.BinaryOp at parent lhs) context live) = IsWithin within context
+Stands within (R.In R.ExprStatement context live) = IsWithin within context
+Stands within (R.In (R.Initializer at) context live) = IsWithin within context
+Stands within (R.In (R.Definition at constant exported) context live) = IsWithin within context
+Stands within (R.In (R.Import at) context live) = IsWithin within context
+Stands within (R.In (R.Export at) context live) = IsWithin within context
+Stands within (R.In R.Statement context live) = IsWithin within context
+Stands within (R.In (R.Statements closing before) context live) = IsWithin within context
+Stands within (R.In R.Inside context live) = IsWithin within context
+Stands within (R.In (R.Block at) context live) = IsWithin within context
+Stands within (R.In (R.Construct at kind) context live) = IsWithin within context
+Stands within (R.In (R.Braced at) context live) = IsWithin within context
+Stands within (R.In R.Guard context live) = IsWithin within context
+Stands within (R.In R.Iterated context live) = IsWithin within context
+Stands within (R.In (R.Conditional at) context live) = IsWithin within context
+Stands within (R.In (R.Branch at) context live) = IsWithin within context
+Stands within (R.In (R.Arms before) context live) = IsWithin within context
+Stands within (R.In (R.Arm before) context live) = IsWithin within context
+Stands within (R.In (R.DefaultArm default) context live) = IsWithin within context
+Stands within (R.In (R.Cases before) context live) = IsWithin within context
+Stands within (R.In R.Case context live) = IsWithin within context
+Stands within (R.In R.CaseGuard context live) = IsWithin within context
+Stands within (R.In R.Action context live) = IsWithin within context
+Stands within (R.In (R.FunctionStatement comments first at is_private) context live) = IsWithin within context
 Stands within (R.Function context comments at is_private) = IsWithin within context
-Stands within (R.Closure context live at by) = IsWithin within context
-Stands within (R.ClosureBody context live) = IsWithin within context
+Stands within (R.In (R.Closure at by) context live) = IsWithin within context
+Stands within (R.In R.ClosureBody context live) = IsWithin within context
 Stands within _ = Unit {0}
 
 -- A part is read as what it is a part of. But no function is read in a closure.
@@ -110,8 +110,8 @@ module _ (within names : Bool) (slots : List SlotValue) where
 
 -- Names are used in two productions alone: that of an operand without what follows it, and that of a closure.
 abbrev pub uses_names : Goal → Bool
-uses_names (R.Primary context live) = true
-uses_names (R.Closure context live at by) = true
+uses_names (R.In R.Primary context live) = true
+uses_names (R.In (R.Closure at by) context live) = true
 uses_names _ = false
 
 -- a name as an operand
@@ -127,16 +127,16 @@ pub record ClosureBody : Type 0 where
   pub uses : List UseOrEnd
 
 abbrev pub body_of : {context : Context} {live : Live} {at : Position} {b : Bars} {x : Node} (own : List Text)
-    → D.Filled production (R.Closure context live at b) (P.closure_of context live at own) x → ClosureBody
+    → D.Filled production (R.In (R.Closure at b) context live) (P.closure_of context live at own) x → ClosureBody
 body_of own (must (apart f captured number body rest)) = record { captured = captured; uses = uses_in production body }
 
 abbrev pub body_by : {context : Context} {live : Live} {at : Position} {b : Bars} {x : Node} (by : Bars)
-    → D.Filled production (R.Closure context live at b) (P.closure_by context live at by) x → ClosureBody
+    → D.Filled production (R.In (R.Closure at b) context live) (P.closure_by context live at by) x → ClosureBody
 body_by bars.Pair f = body_of [] f
 body_by bars.List (part own list f) = body_of own f
 
 abbrev pub closure_body : {context : Context} {live : Live} {at : Position} {by : Bars} {x : Node}
-    → D.Form production (R.Closure context live at by) x → ClosureBody
+    → D.Form production (R.In (R.Closure at by) context live) x → ClosureBody
 closure_body {by = by} (form (knows f)) = body_by by f
 
 -- these names, each used where these slots are live
@@ -154,12 +154,12 @@ pub record NamesAreUsed : Type 0 where
   pub operands : (within : Bool) (context : Context) (live : Live) (start : Beginning) → IsWithin within context
       → Watches within (is_by_name start) live.slots (P.primary_by context live start)
   pub name : (context : Context) (live : Live) (x : Node)
-      (f : D.Filled production (R.Primary context live) (P.primary_by context live begin.Name) x) (s t : Point)
+      (f : D.Filled production (R.In R.Primary context live) (P.primary_by context live begin.Name) x) (s t : Point)
       → Met (D.demanded production f Nothing) s t → uses_of production f ≡ use_of
       (excludes_use (next_at code t).lexeme)
       (record { name = text_of (next_at code s).lexeme; at = (next_at code s).at }) live.slots
   pub closure : (context : Context) (live : Live) (at : Position) (by : Bars) (x : Node)
-      (f : D.Form production (R.Closure context live at by) x) → uses_in production f
+      (f : D.Form production (R.In (R.Closure at by) context live) x) → uses_in production f
       ≡ ends_of (closure_body f).uses
       ++ (used_there live.slots (closure_body f).captured ++ IsEnd (closure_parts f).ended ∷ [])
 
@@ -171,7 +171,7 @@ pub record ClosuresCaptureTheirUses : Type 0 where
       → Met (D.demands production f Nothing) s t
       → t.captured ≡ with_uses s.captured (outer_uses (uses_in production f) s.library)
   pub closure : (context : Context) (live : Live) (at : Position) (by : Bars) (x : Node)
-      (f : D.Form production (R.Closure context live at by) x) (s t : Point) → Met (D.demands production f Nothing) s t
+      (f : D.Form production (R.In (R.Closure at by) context live) x) (s t : Point) → Met (D.demands production f Nothing) s t
       → (closure_body f).captured ≡ first_uses (outer_uses (closure_body f).uses s.library)
 
 -- After a form that fits outside of closures no more names are captured than before it.

@@ -10,7 +10,7 @@ use Rattle.rhai_grammar.specs.Prelude.{property, qualified, spot_after_bracket, 
 use Rattle.rhai_grammar.specs.declared.role.ItemRole.{ItemRole}
 use Rattle.rhai_grammar.specs.declared.role.ItemRole.TheVariants as item
 use Rattle.rhai_grammar.specs.Goals as goal
-use Rattle.rhai_grammar.specs.Goals.{Expression, Links, Operand}
+use Rattle.rhai_grammar.specs.Goals.{In, Expression, Links, Operand}
 use Rattle.rhai_grammar.specs.Forms.{Filled, Form, choose, form, given, if_not, if_so, must, part, take, this}
 use Rattle.rhai_grammar.specs.Forms.{checked}
 use Rattle.rhai_grammar.specs.Rules as P
@@ -22,7 +22,7 @@ use Rattle.rhai_grammar_laws.specs.WorkedTokens.{After}
 
 -- an index in brackets, and the links after it
 abbrev pub bracket : {w : Live} {spot : LinkSpot} {x : Node} {ls : List Link} (opening : ℕ)
-    → Form production (Expression (level_up (level_up spot.brackets)) w) x → (closing : ℕ)
+    → Form production (In Expression (level_up (level_up spot.brackets)) w) x → (closing : ℕ)
     → Form production (Links w (spot_after_bracket spot (bracket_link (Sign token.LeftBracket) (place 1 opening) x))) ls
     → Form production (Links w spot) ls
 bracket opening f closing links =
@@ -32,7 +32,7 @@ bracket opening f closing links =
 
 -- the same after `?[`
 abbrev pub question_bracket : {w : Live} {spot : LinkSpot} {x : Node} {ls : List Link} (opening : ℕ)
-    → Form production (Expression (level_up (level_up spot.brackets)) w) x → (closing : ℕ)
+    → Form production (In Expression (level_up (level_up spot.brackets)) w) x → (closing : ℕ)
     → Form production (Links w (spot_after_bracket spot
     (bracket_link (Sign token.QuestionBracket) (place 1 opening) x))) ls
     → Form production (Links w spot) ls
@@ -54,16 +54,16 @@ dotted dot name column links =
 -- ---- lists
 
 -- the last argument, before the `)`
-abbrev pub last_argument : {c : Context} {w : Live} {before : Nodes} {x : Node} → Form production (Expression c w) x
-    → (closing : ℕ) → Form production (goal.Items c w before) (with_node before x)
+abbrev pub last_argument : {c : Context} {w : Live} {before : Nodes} {x : Node} → Form production (In Expression c w) x
+    → (closing : ℕ) → Form production (goal.In (goal.Items before) c w) (with_node before x)
 last_argument f closing =
     form (part _ f (choose (Sign token.RightParen) (place 1 closing) (
     this (Sign token.RightParen) (place 1 closing) given)))
 
 -- a name that is called with arguments in parentheses
 abbrev pub called : {c : Context} {w : Live} {o : Option (ℕ × Bool)} {ns : Nodes} (name : Text) (column opening : ℕ)
-    → Form production (goal.Items (level_up c) w node.no_nodes) ns → After c.filter o
-    → Form production (Operand c w) (call_tree (name_tree w.slots true name (place 1 column)) false ns)
+    → Form production (goal.In (goal.Items node.no_nodes) (level_up c) w) ns → After c.filter o
+    → Form production (In Operand c w) (call_tree (name_tree w.slots true name (place 1 column)) false ns)
 called name column opening items t =
     form (choose (Name name) (place 1 column) (part _ (name_before name column (Sign token.LeftParen) opening) (
     part _ (form (if_not (if_so (part _ (form (choose (Sign token.LeftParen) (place 1 opening) (
@@ -74,7 +74,7 @@ called name column opening items t =
 -- a name after `::` that is called with `()`
 abbrev pub path_called : {c : Context} {w : Live} {o : Option (ℕ × Bool)} (root : Text) (column colons : ℕ)
     (name : Text) (at pair : ℕ) → After c.filter o
-    → Form production (Operand c w) (call_tree (qualified w.imports (name_tree w.slots true root (place 1 column)) name
+    → Form production (In Operand c w) (call_tree (qualified w.imports (name_tree w.slots true root (place 1 column)) name
     (place 1 at)) false node.no_nodes)
 path_called root column colons name at pair t =
     form (choose (Name root) (place 1 column) (part _ (name_before root column (Sign token.DoubleColon) colons) (
@@ -89,17 +89,17 @@ IsItem _ = ⊥
 
 -- where an item of an array begins
 abbrev pub item_there : {c : Context} {w : Live} {at : Position} {before ns : Nodes} (role : ItemRole) → IsItem role
-    → Filled production (goal.Elements c w at before) (P.element_by c w at before item.Item) ns
-    → Filled production (goal.Elements c w at before) (P.element_by c w at before role) ns
+    → Filled production (goal.In (goal.Elements at before) c w) (P.element_by c w at before item.Item) ns
+    → Filled production (goal.In (goal.Elements at before) c w) (P.element_by c w at before role) ns
 item_there item.Item so f = f
 item_there item.End so f = absurd so
 item_there item.Nothing so f = absurd so
 
 -- the last item, before the `]`
 abbrev pub last_element : {c : Context} {w : Live} {at : Position} {before : Nodes} {x : Node}
-    (f : Form production (Expression (level_up c) w) x)
+    (f : Form production (In Expression (level_up c) w) x)
     → IsItem (item_role c.sizes.array (node_count before) (start f).0) → (closing : ℕ)
-    → Form production (goal.Elements c w at before) (with_node before x)
+    → Form production (goal.In (goal.Elements at before) c w) (with_node before x)
 last_element {c} {before = before} f so closing =
     form (choose (start f).0 (start f).1 (item_there (item_role c.sizes.array (node_count before) (start f).0) so (
     must (part _ f (choose (Sign token.RightBracket) (place 1 closing) (
@@ -107,8 +107,8 @@ last_element {c} {before = before} f so closing =
 
 -- an array
 abbrev pub listed : {c : Context} {w : Live} {o : Option (ℕ × Bool)} {ns : Nodes} (opening : ℕ)
-    → Form production (goal.Elements (level_up c) w (place 1 opening) node.no_nodes) ns → After c.filter o
-    → Form production (Operand c w) (array ns (place 1 opening))
+    → Form production (goal.In (goal.Elements (place 1 opening) node.no_nodes) (level_up c) w) ns → After c.filter o
+    → Form production (In Operand c w) (array ns (place 1 opening))
 listed opening items t =
     form (choose (Sign token.LeftBracket) (place 1 opening) (linked (form (
     choose (Sign token.LeftBracket) (place 1 opening) (this (Sign token.LeftBracket) (place 1 opening) (

@@ -9,7 +9,7 @@ use Rattle.rhai_grammar.specs.Prelude.{node_count, operator_tree, place, positio
 use Rattle.rhai_grammar.specs.declared.role.ItemRole.{ItemRole}
 use Rattle.rhai_grammar.specs.declared.role.ItemRole.TheVariants as item
 use Rattle.rhai_grammar.specs.Goals as goal
-use Rattle.rhai_grammar.specs.Goals.{BinaryOp, Expression, Goal, Operand, RightOperand, Val, Whole}
+use Rattle.rhai_grammar.specs.Goals.{In, BinaryOp, Expression, Goal, Operand, RightOperand, Val, Whole}
 use Rattle.rhai_grammar.specs.Strengths.{continues}
 use Rattle.rhai_grammar.specs.Forms.{Form, Open, choose, form, here, if_not, if_so, must, must_here}
 use Rattle.rhai_grammar.specs.Forms.{FilledIn, open_form, part, part_here, this}
@@ -30,22 +30,22 @@ open_part f = part_here (open_form f)
 -- ---- expressions
 
 -- a whole stream of which the expression is open
-abbrev pub open_whole : {c : Context} {w : Live} → Open production (Expression c w) → Open production (Whole c w)
+abbrev pub open_whole : {c : Context} {w : Live} → Open production (In Expression c w) → Open production (In Whole c w)
 open_whole f = open_form (part_here f)
 
 -- an expression that is too deep, which begins with this token
-abbrev pub too_deep : {c : Context} {w : Live} (l : Lexeme) (column : ℕ) → Open production (Expression c w)
+abbrev pub too_deep : {c : Context} {w : Live} (l : Lexeme) (column : ℕ) → Open production (In Expression c w)
 too_deep l column = open_form (here l (place 1 column) must_here)
 
 -- an expression of which the first operand is open, which begins with this token
 abbrev pub open_operand : {c : Context} {w : Live} (l : Lexeme) (column : ℕ)
-    → FilledIn production (Operand (level_up c) w) (production (Operand (level_up c) w)) None
-    → Open production (Expression c w)
+    → FilledIn production (In Operand (level_up c) w) (production (In Operand (level_up c) w)) None
+    → Open production (In Expression c w)
 open_operand l column f = open_form (here l (place 1 column) (must (part_here (open_form f))))
 
 -- an expression that is open after the first operand
-abbrev pub open_run : {c : Context} {w : Live} {x : Node} → Form production (Operand (level_up c) w) x
-    → Open production (BinaryOp (level_up c) w (position_of x) 1 x) → Open production (Expression c w)
+abbrev pub open_run : {c : Context} {w : Live} {x : Node} → Form production (In Operand (level_up c) w) x
+    → Open production (In (BinaryOp (position_of x) 1 x) (level_up c) w) → Open production (In Expression c w)
 open_run f rest = open_form (here (front f).0 (front f).1 (must (part _ f (part_here rest))))
 
 -- ---- operators
@@ -59,8 +59,8 @@ holds_open q false e f = absurd e
 -- an operator that goes on with a run, and what follows it
 abbrev pub open_after : {c : Context} {w : Live} {at : Position} {parent : ℕ} {x : Node} {op : ℕ × Bool}
     (t : After c.filter (Some op)) → Holds (continues parent op.0 op.1)
-    → FilledIn production (BinaryOp c w at parent x) (P.binary_on c w at parent x op.0) None
-    → Open production (BinaryOp c w at parent x)
+    → FilledIn production (In (BinaryOp at parent x) c w) (P.binary_on c w at parent x op.0) None
+    → Open production (In (BinaryOp at parent x) c w)
 open_after {parent = parent} {op = op} t so rest =
     open_form (part _ (form (choose t.token (place 1 t.column) t.operator)) (
     holds_open _ (continues parent op.0 op.1) so rest))
@@ -68,14 +68,14 @@ open_after {parent = parent} {op = op} t so rest =
 -- an operator whose right operand is open
 abbrev pub open_right : {c : Context} {w : Live} {at : Position} {parent : ℕ} {x : Node} {op : ℕ × Bool}
     (t : After c.filter (Some op)) → Holds (continues parent op.0 op.1)
-    → Open production (RightOperand c w (role_after t.token)) → Open production (BinaryOp c w at parent x)
+    → Open production (In (RightOperand (role_after t.token)) c w) → Open production (In (BinaryOp at parent x) c w)
 open_right t so y = open_after t so (this t.token (place 1 t.column) (part_here y))
 
 -- an operator whose right operand, before this token, is too deep
 abbrev pub deep_right : {c : Context} {w : Live} {at : Position} {parent : ℕ} {x y : Node} {op : ℕ × Bool}
     {next : Option (ℕ × Bool)} (t : After c.filter (Some op)) → Holds (continues parent op.0 op.1)
-    → Form production (RightOperand c w (role_after t.token)) y → After c.filter next
-    → Open production (BinaryOp c w at parent x)
+    → Form production (In (RightOperand (role_after t.token)) c w) y → After c.filter next
+    → Open production (In (BinaryOp at parent x) c w)
 deep_right t so y u =
     open_after t so (this t.token (place 1 t.column) (part _ y (
     part _ (form (choose u.token (place 1 u.column) u.operator)) must_here)))
@@ -83,8 +83,8 @@ deep_right t so y u =
 -- an operator after whose right operand, before this token, what groups more tightly is open
 abbrev pub open_tighter : {c : Context} {w : Live} {at : Position} {parent : ℕ} {x y : Node} {op : ℕ × Bool}
     {next : Option (ℕ × Bool)} (t : After c.filter (Some op)) → Holds (continues parent op.0 op.1)
-    → Form production (RightOperand c w (role_after t.token)) y → After c.filter next
-    → Open production (BinaryOp (level_up c) w (position_of y) op.0 y) → Open production (BinaryOp c w at parent x)
+    → Form production (In (RightOperand (role_after t.token)) c w) y → After c.filter next
+    → Open production (In (BinaryOp (position_of y) op.0 y) (level_up c) w) → Open production (In (BinaryOp at parent x) c w)
 open_tighter t so y u r =
     open_after t so (this t.token (place 1 t.column) (part _ y (
     part _ (form (choose u.token (place 1 u.column) u.operator)) (must (part_here r)))))
@@ -92,11 +92,10 @@ open_tighter t so y u r =
 -- an operator with its right side, and the rest of the run, which is open
 abbrev pub open_rest : {c : Context} {w : Live} {at : Position} {parent : ℕ} {x y r : Node} {op : ℕ × Bool}
     (t : After c.filter (Some op)) → Holds (continues parent op.0 op.1)
-    → Form production (RightOperand c w (role_after t.token)) y
-    → Form production (BinaryOp (level_up c) w (position_of y) op.0 y) r
-    → Open production (BinaryOp (level_up c) w (place 1 t.column) parent
-    (operator_tree t.token (place 1 t.column) x r))
-    → Open production (BinaryOp c w at parent x)
+    → Form production (In (RightOperand (role_after t.token)) c w) y
+    → Form production (In (BinaryOp (position_of y) op.0 y) (level_up c) w) r
+    → Open production (In (BinaryOp (place 1 t.column) parent (operator_tree t.token (place 1 t.column) x r)) (level_up c) w)
+    → Open production (In (BinaryOp at parent x) c w)
 open_rest t so y r z =
     open_after t so (this t.token (place 1 t.column) (part _ y (
     part _ (next_of r).1 (must (part _ r (must (must (part_here z))))))))
@@ -105,26 +104,26 @@ open_rest t so y r z =
 
 -- a name that is called with arguments in parentheses, which are open
 abbrev pub open_call : {c : Context} {w : Live} (name : Text) (column opening : ℕ)
-    → Open production (goal.Arguments c w (place 1 column))
-    → FilledIn production (Operand c w) (production (Operand c w)) None
+    → Open production (goal.In (goal.Arguments (place 1 column)) c w)
+    → FilledIn production (In Operand c w) (production (In Operand c w)) None
 open_call name column opening f =
     choose (Name name) (place 1 column) (part _ (name_before name column (Sign token.LeftParen) opening) (
     part_here (open_form (if_not (if_so (part_here (open_form (choose (Sign token.LeftParen) (place 1 opening) (
     this (Sign token.LeftParen) (place 1 opening) (part_here f))))))))))
 
 -- arguments that are too deep
-abbrev pub deep_arguments : {c : Context} {w : Live} {at : Position} → Open production (goal.Arguments c w at)
+abbrev pub deep_arguments : {c : Context} {w : Live} {at : Position} → Open production (goal.In (goal.Arguments at) c w)
 deep_arguments = open_form (if_not (if_not must_here))
 
 -- arguments of which the first is open
-abbrev pub open_argument : {c : Context} {w : Live} {at : Position} → Open production (Expression (level_up c) w)
-    → Open production (goal.Arguments c w at)
+abbrev pub open_argument : {c : Context} {w : Live} {at : Position} → Open production (In Expression (level_up c) w)
+    → Open production (goal.In (goal.Arguments at) c w)
 open_argument f = open_form (if_not (if_not (must (part_here (open_form (part_here f))))))
 
 -- an array whose items are open
 abbrev pub open_array : {c : Context} {w : Live} (opening : ℕ)
-    → Open production (goal.Elements (level_up c) w (place 1 opening) node.no_nodes)
-    → FilledIn production (Operand c w) (production (Operand c w)) None
+    → Open production (goal.In (goal.Elements (place 1 opening) node.no_nodes) (level_up c) w)
+    → FilledIn production (In Operand c w) (production (In Operand c w)) None
 open_array opening items =
     choose (Sign token.LeftBracket) (place 1 opening) (part_here (open_form (
     choose (Sign token.LeftBracket) (place 1 opening) (this (Sign token.LeftBracket) (place 1 opening) (
@@ -132,17 +131,17 @@ open_array opening items =
 
 -- where an item of an array begins
 abbrev item_there : {c : Context} {w : Live} {at : Position} {before : Nodes} (role : ItemRole) → IsItem role
-    → FilledIn production (goal.Elements c w at before) (P.element_by c w at before item.Item) None
-    → FilledIn production (goal.Elements c w at before) (P.element_by c w at before role) None
+    → FilledIn production (goal.In (goal.Elements at before) c w) (P.element_by c w at before item.Item) None
+    → FilledIn production (goal.In (goal.Elements at before) c w) (P.element_by c w at before role) None
 item_there item.Item so f = f
 item_there item.End so f = absurd so
 item_there item.Nothing so f = absurd so
 
 -- an item of an array with the comma after it, and the items that follow, which are open
 abbrev pub open_items : {c : Context} {w : Live} {at : Position} {before : Nodes} {x : Node}
-    (f : Form production (Expression (level_up c) w) x)
+    (f : Form production (In Expression (level_up c) w) x)
     → IsItem (item_role c.sizes.array (node_count before) (start f).0) → (comma : ℕ)
-    → Open production (goal.Elements c w at (with_node before x)) → Open production (goal.Elements c w at before)
+    → Open production (goal.In (goal.Elements at (with_node before x)) c w) → Open production (goal.In (goal.Elements at before) c w)
 open_items {c} {before = before} f so comma rest =
     open_form (choose (start f).0 (start f).1 (item_there (item_role c.sizes.array (node_count before) (start f).0) so (
     must (part _ f (choose (Sign token.Comma) (place 1 comma) (

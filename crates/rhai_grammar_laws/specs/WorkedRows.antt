@@ -4,7 +4,7 @@ use Rattle.rhai_grammar.specs.Contexts.{nothing_live}
 use Rattle.rhai_grammar.specs.Delivered.{Mode, Point}
 use Rattle.rhai_grammar.specs.Demands.{Met, Missed}
 use Rattle.rhai_grammar.specs.Prelude.{Context, Refusal}
-use Rattle.rhai_grammar.specs.Goals.{Goal, Script, Val, Whole}
+use Rattle.rhai_grammar.specs.Goals.{In, Goal, Script, Val, Whole}
 use Rattle.rhai_grammar.specs.Forms.{Filled}
 use Rattle.rhai_grammar.specs.Promises.{Unwritten, Written, unwritten, written}
 use Rattle.rhai_grammar.specs.Rules.{production}
@@ -14,7 +14,7 @@ use Rattle.rhai_grammar.specs.Productions.{Production}
 
 -- what is read where nothing is defined: one expression, or a script
 abbrev pub formula : Context → Goal
-formula c = Whole c nothing_live
+formula c = In Whole c nothing_live
 
 abbrev pub script : Context → Goal
 script c = Script c nothing_live

@@ -71,7 +71,7 @@ abbrev example_name : Node
 example_name = name_tree example_parameter.slots false (codes "b") (place 1 5)
 
 -- `b` as an expression before the end mark
-abbrev example_expression : (context : Context) → Form production (R.Expression context example_parameter) example_name
+abbrev example_expression : (context : Context) → Form production (R.In R.Expression context example_parameter) example_name
 example_expression context = form (here (Name (codes "b")) (place 1 5) (must (
     part example_name (form (choose (Name (codes "b")) (place 1 5) (
     part example_name (form (choose (Name (codes "b")) (place 1 5) (
@@ -85,7 +85,7 @@ example_captured = record { name = codes "b"; at = place 1 5 } ∷ []
 
 -- `|a| b`
 abbrev example_closure : (context : Context) → Form production
-    (R.Closure context nothing_live (place 1 1) bars.List)
+    (R.In (R.Closure (place 1 1) bars.List) context nothing_live)
     (closure_node (place 1 1) 0 example_captured (codes "a" ∷ []) nothing_live)
 example_closure context = form (knows (
     part (codes "a" ∷ []) (form (choose (Name (codes "a")) (place 1 2) (this (Name (codes "a")) (place 1 2) (must (
@@ -106,7 +106,7 @@ example : ((c : Context) → map (λ w. w.names) (example_functions c) ≡ (code
     ≡ (codes "b" ∷ codes "a" ∷ []) ∷ [])
     × ((c : Context) → free_names (uses_in production (example_closure c)) ≡ codes "b" ∷ [])
     × ((c : Context) → outer_uses (uses_in production (example_closure c)) [] ≡ example_captured)
-    × ((c : Context) (w : Live) (x : Named) (at : Position) (u : Use) → free_names (outside (R.Primary c w)
+    × ((c : Context) (w : Live) (x : Named) (at : Position) (u : Use) → free_names (outside (R.In R.Primary c w)
     (variable x at) (taken code (Sign token.LeftParen) (place 1 2) ∷ []) (use_of false u w.slots)) ≡ [])
 unfolding number
 example = (λ c. refl, λ c. refl, λ c. refl, λ c. refl, λ c w x at u. refl)

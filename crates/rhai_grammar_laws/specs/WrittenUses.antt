@@ -42,8 +42,8 @@ called_in (IsEnd e ∷ more) = IsEnd e ∷ called_in more
 
 -- the live slots of a goal in which names are used: that of an operand, and that of a closure, where it ends
 abbrev pub live_slots : Goal → List SlotValue
-live_slots (R.Primary context live) = live.slots
-live_slots (R.Closure context live at by) = live.slots
+live_slots (R.In R.Primary context live) = live.slots
+live_slots (R.In (R.Closure at by) context live) = live.slots
 live_slots _ = []
 
 -- A variable is called, or made part of a path, by the first of these tokens.
@@ -54,7 +54,7 @@ is_called_by (t ∷ more) x = is_variable x && excludes_use t.item.lexeme
 -- What there is of a part in the form around it. The uses in an operand are called if the tokens after it call it; and
 -- those in a function are its own.
 abbrev pub outside : (g : Goal) → Val g → (after : List Taken) → List UseOrEnd → List UseOrEnd
-outside (R.Primary context live) x after us = if is_called_by after x then called_in us else us
+outside (R.In R.Primary context live) x after us = if is_called_by after x then called_in us else us
 outside (R.Function context comments at is_private) x after us = ends_of us
 outside _ x after us = us
 

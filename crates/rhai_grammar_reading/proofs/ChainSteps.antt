@@ -11,7 +11,7 @@ use Rattle.rhai_grammar_reading.specs.Running.{result_of}
 use Rattle.rhai_grammar.specs.Productions.{Production, give, part, raise}
 use Rattle.rhai_grammar.specs.Rules.{dotted_by, links_by}
 use Rattle.rhai_grammar.specs.Chains.{Link}
-use Rattle.rhai_grammar_reading.specs.Reading.{Fail, Ret, Call, Index, Links, Member, run, run_from}
+use Rattle.rhai_grammar_reading.specs.Reading.{In, Fail, Ret, Call, Index, Links, Member, run, run_from}
 use Rattle.rhai_grammar_reading.specs.Running as R
 use Rattle.rhai_grammar_reading.proofs.Steps.{and_then_done, guarded_is, nested_is, step_links}
 
@@ -22,7 +22,7 @@ pub record TakesDot (w : Live) (q : LinkSpot) (x : Node) (s t : Progress) : Type
   pub readable_on : is_memory (next_item (after_take s)).lexeme ≡ false
   pub due : member_role (next_item (after_take s)).lexeme ≡ AMember
   pub room : may_raise q.settings ≡ true
-  pub member : nested (result_of (Member (level_up q.settings) w)) (after_peek (after_take s)) ≡ R.Done x t
+  pub member : nested (result_of (In Member (level_up q.settings) w)) (after_peek (after_take s)) ≡ R.Done x t
   pub after_dot : left (after_take s).cursor.tokens + 1 ≤ left s.cursor.tokens
   pub after_member : left t.cursor.tokens + 1 ≤ left s.cursor.tokens
 
@@ -34,7 +34,7 @@ dot_taken w q x s t h =
     let at = (next_item s).at in
     let u = after_take s in
     let m = (next_item u).lexeme in
-    let inner = nested_is g s (Member (level_up q.settings) w) (after_peek u) (omega (arith, h.after_dot)) ∙ h.member in
+    let inner = nested_is g s (In Member (level_up q.settings) w) (after_peek u) (omega (arith, h.after_dot)) ∙ h.member in
     let on = Links w (spot_after_dot q (member_link l at x)) in
     step_links w q s
     ∙ ap (λ m. if m then R.Refused out_of_memory (after_peek s) else exec call (run_from (links_by w q (linking l)) (Some (l, at))) (after_peek s)) h.readable
@@ -42,7 +42,7 @@ dot_taken w q x s t h =
     ∙ ap (λ o. if o then R.Refused out_of_memory (after_peek (after_peek s)) else (if is_memory m then R.Refused out_of_memory (after_peek u) else exec call (run_from (dotted_by w q l at (member_role m)) (Some (m, (next_item u).at))) (after_peek u))) h.readable
     ∙ ap (λ o. if o then R.Refused out_of_memory (after_peek u) else exec call (run_from (dotted_by w q l at (member_role m)) (Some (m, (next_item u).at))) (after_peek u)) h.readable_on
     ∙ ap (λ b. exec call (run_from (dotted_by w q l at b) (Some (m, (next_item u).at))) (after_peek u)) h.due
-    ∙ ap (λ b. exec call (if b then Call (Member (level_up q.settings) w) (λ y. Call (Links w (spot_after_dot q (member_link l at y))) Ret) else Fail (refusal ExprTooDeep at)) (after_peek u)) h.room
+    ∙ ap (λ b. exec call (if b then Call (In Member (level_up q.settings) w) (λ y. Call (Links w (spot_after_dot q (member_link l at y))) Ret) else Fail (refusal ExprTooDeep at)) (after_peek u)) h.room
     ∙ ap (λ o. R.and_then o (λ y v. exec call (Call (Links w (spot_after_dot q (member_link l at y))) Ret) v)) inner
     ∙ and_then_done (call on t)
     ∙ guarded_is g s on t (omega (arith, h.after_member))
@@ -61,7 +61,7 @@ pub record DotTaken (d : Context) (w : Live) (q next : LinkSpot) (l : Lexeme) (a
   pub look_on : s3 ≡ after_peek s2
   pub room : may_raise q.settings ≡ true
   pub deeper : d ≡ level_up q.settings
-  pub member : nested (result_of (Member d w)) s3 ≡ R.Done x t
+  pub member : nested (result_of (In Member d w)) s3 ≡ R.Done x t
   pub member_short : left t.cursor.tokens ≤ left s3.cursor.tokens
   pub joined : next ≡ record { settings = d; brackets = d; indexed = None; before = q.before ++ (member_link l at x ∷ []) }
 
@@ -84,7 +84,7 @@ dot_goes_on {d} {w} {q} {next} {l} {at} {x} {s} {s1} {s2} {s3} {t} h =
       readable_on = ap (λ (u : Progress). is_memory (next_item u).lexeme) (sym there) ∙ h.readable_on;
       due = ap (λ (u : Progress). member_role (next_item u).lexeme) (sym there) ∙ h.due;
       room = h.room;
-      member = ap (λ (f : Context). nested (result_of (Member f w)) (after_peek (after_take s))) (sym h.deeper) ∙ ap (nested (result_of (Member d w))) (sym looked) ∙ h.member;
+      member = ap (λ (f : Context). nested (result_of (In Member f w)) (after_peek (after_take s))) (sym h.deeper) ∙ ap (nested (result_of (In Member d w))) (sym looked) ∙ h.member;
       after_dot = subst (λ (u : Progress). left u.cursor.tokens + 1 ≤ left s.cursor.tokens) there short.0;
       after_member = short.1;
     } in
@@ -101,7 +101,7 @@ record TakesBracket (w : Live) (q : LinkSpot) (x : Node) (s t : Progress) : Type
   bracket : linking (next_item s).lexeme ≡ link.Bracket
   room : may_raise q.brackets ≡ true
   room_on : may_raise (level_up q.brackets) ≡ true
-  index : nested (result_of (Index (level_up (level_up q.brackets)) w q.indexed)) (after_take s) ≡ R.Done x t
+  index : nested (result_of (In (Index q.indexed) (level_up (level_up q.brackets)) w)) (after_take s) ≡ R.Done x t
   after_bracket : left (after_take s).cursor.tokens + 1 ≤ left s.cursor.tokens
   after_index : left t.cursor.tokens + 1 ≤ left s.cursor.tokens
 
@@ -113,8 +113,8 @@ bracket_taken w q x s t h =
     let at = (next_item s).at in
     let u = after_take s in
     let d = level_up q.brackets in
-    let inside : Context → Production (List Link) = λ e. part (Index e w q.indexed) (λ y. part (Links w (spot_after_bracket q (bracket_link l at y))) give) in
-    let inner = nested_is g s (Index (level_up d) w q.indexed) u (omega (arith, h.after_bracket)) ∙ h.index in
+    let inside : Context → Production (List Link) = λ e. part (In (Index q.indexed) e w) (λ y. part (Links w (spot_after_bracket q (bracket_link l at y))) give) in
+    let inner = nested_is g s (In (Index q.indexed) (level_up d) w) u (omega (arith, h.after_bracket)) ∙ h.index in
     let on = Links w (spot_after_bracket q (bracket_link l at x)) in
     step_links w q s
     ∙ ap (λ m. if m then R.Refused out_of_memory (after_peek s) else exec call (run_from (links_by w q (linking l)) (Some (l, at))) (after_peek s)) h.readable
@@ -139,7 +139,7 @@ pub record BracketTaken (d e : Context) (w : Live) (q next : LinkSpot) (l : Lexe
   pub deeper : d ≡ level_up q.brackets
   pub room_on : may_raise d ≡ true
   pub inside : e ≡ level_up d
-  pub index : nested (result_of (Index e w q.indexed)) s2 ≡ R.Done x t
+  pub index : nested (result_of (In (Index q.indexed) e w)) s2 ≡ R.Done x t
   pub index_short : left t.cursor.tokens ≤ left s2.cursor.tokens
   pub joined : next ≡ record { settings = q.settings; brackets = d; indexed = None; before = q.before ++ (bracket_link l at x ∷ []) }
 
@@ -160,7 +160,7 @@ bracket_goes_on {d} {e} {w} {q} {next} {l} {at} {x} {s} {s1} {s2} {t} h =
       bracket = ap (λ (i : Item). linking i.lexeme) (sym h.token) ∙ h.bracket;
       room = h.room;
       room_on = ap may_raise (sym h.deeper) ∙ h.room_on;
-      index = ap (λ (f : Context). nested (result_of (Index f w q.indexed)) (after_take s)) (sym twice) ∙ ap (nested (result_of (Index e w q.indexed))) (sym there) ∙ h.index;
+      index = ap (λ (f : Context). nested (result_of (In (Index q.indexed) f w)) (after_take s)) (sym twice) ∙ ap (nested (result_of (In (Index q.indexed) e w))) (sym there) ∙ h.index;
       after_bracket = subst (λ (u : Progress). left u.cursor.tokens + 1 ≤ left s.cursor.tokens) there short.0;
       after_index = short.1;
     } in

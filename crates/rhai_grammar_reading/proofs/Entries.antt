@@ -8,7 +8,7 @@ use Rattle.rhai_grammar.specs.Prelude.{Demands, Met, Missed, IsWritten, EndsIn, 
 use Rattle.rhai_grammar.specs.Cursors as C
 use Rattle.rhai_grammar.specs.Promises.{start_of, Saw, IsNamed, IsReadable, HasRead, IsWrittenTo, NoneBegins}
 use Rattle.rhai_grammar.specs.Productions.{give, if_next, never}
-use Rattle.rhai_grammar_reading.specs.Reading.{Goal, Val, Script, Whole, Prog, body, run}
+use Rattle.rhai_grammar_reading.specs.Reading.{In, Goal, Val, Script, Whole, Prog, body, run}
 use Rattle.rhai_grammar_reading.specs.Running as R
 use Rattle.rhai_grammar_reading.specs.Running.{Progress, result_of}
 use Rattle.rhai_grammar_reading.specs.Histories.{State, and_then, next_item, after_peek, Outcome, Done, Refused}
@@ -290,7 +290,7 @@ module _ {F O : Type 0} {g : Goal} {whole : F → Demands} {stopping : O → Dem
 
 -- ---- whole expressions and scripts look at the first token
 
-pub whole_looks : (c : Context) (live : Live) (n : ℕ) (s : State) → IsOther (exec (calls n) (body (Whole c live)) s)
+pub whole_looks : (c : Context) (live : Live) (n : ℕ) (s : State) → IsOther (exec (calls n) (body (In Whole c live)) s)
     → is_memory (next_item s).lexeme ≡ false
 whole_looks c live zero s other = absurd other
 whole_looks c live (suc n) s other = by_test (is_memory (next_item s).lexeme) _ other

@@ -15,7 +15,7 @@ use Rattle.rhai_grammar.specs.Signs.{sign_result}
 use Rattle.rhai_grammar.specs.Operators.{operator_result}
 use Rattle.rhai_grammar.specs.Productions.{part, raise}
 use Rattle.rhai_grammar.specs.Rules as P
-use Rattle.rhai_grammar_reading.specs.Reading.{Prog, Ret, Fail, Take, Call, Primary, Operand, BinaryOp, run, run_from}
+use Rattle.rhai_grammar_reading.specs.Reading.{In, Prog, Ret, Fail, Take, Call, Primary, Operand, BinaryOp, run, run_from}
 use Rattle.rhai_grammar_reading.specs.Running as R
 
 -- ---- an operation's answer
@@ -41,11 +41,11 @@ exec_answered call (Err e) t = refl
 
 -- ---- signs
 
-pub operand_sign : (c : Context) (w : Live) (l : Lexeme) (at : Position) (b : Beginning) → is_sign b ≡ true → run_from (P.operand_by c w b) (Some (l, at)) ≡ Take (run (raise c at (λ d. part (Operand d w) (P.sign_on l at))))
+pub operand_sign : (c : Context) (w : Live) (l : Lexeme) (at : Position) (b : Beginning) → is_sign b ≡ true → run_from (P.operand_by c w b) (Some (l, at)) ≡ Take (run (raise c at (λ d. part (In Operand d w) (P.sign_on l at))))
 operand_sign c w l at begin.Sign e = refl
 operand_sign c w l at _ e = absurd cc
 
-pub operand_other : (c : Context) (w : Live) (l : Lexeme) (at : Position) (b : Beginning) → is_sign b ≡ false → run_from (P.operand_by c w b) (Some (l, at)) ≡ run (part (Primary c w) (P.operand_ends c w))
+pub operand_other : (c : Context) (w : Live) (l : Lexeme) (at : Position) (b : Beginning) → is_sign b ≡ false → run_from (P.operand_by c w b) (Some (l, at)) ≡ run (part (In Primary c w) (P.operand_ends c w))
 operand_other c w l at begin.Sign e = absurd cc
 operand_other c w l at _ e = refl
 
@@ -76,12 +76,12 @@ binary_chosen k true true x e f = refl
 binary_chosen k true false x e f = refl
 binary_chosen k false c x e f = refl
 
-pub binary_done : (call : Caller) (d : Context) (w : Live) (parent : ℕ) (lhs : Node) (op : Lexeme) (at : Position) (rhs x : Node) (t : Progress) → operator_result op at lhs rhs ≡ Ok x → exec call (run (P.binary_next d w parent lhs op at rhs)) t ≡ exec call (Call (BinaryOp d w at parent x) (λ y. Ret y)) t
+pub binary_done : (call : Caller) (d : Context) (w : Live) (parent : ℕ) (lhs : Node) (op : Lexeme) (at : Position) (rhs x : Node) (t : Progress) → operator_result op at lhs rhs ≡ Ok x → exec call (run (P.binary_next d w parent lhs op at rhs)) t ≡ exec call (Call (In (BinaryOp at parent x) d w) (λ y. Ret y)) t
 binary_done call d w parent lhs op at rhs x t e =
-    let k : Node → Prog Node = λ y. Call (BinaryOp d w at parent y) (λ z. Ret z) in
+    let k : Node → Prog Node = λ y. Call (In (BinaryOp at parent y) d w) (λ z. Ret z) in
     ap (λ q. exec call q t) (binary_chosen k (boolean_holds op lhs) (boolean_holds op rhs) (operator_tree op at lhs rhs) (mismatched rhs) (mismatched lhs) ∙ ap (goes_with k) e)
 
 pub binary_refused : (call : Caller) (d : Context) (w : Live) (parent : ℕ) (lhs : Node) (op : Lexeme) (at : Position) (rhs : Node) (x : Refusal) (t : Progress) → operator_result op at lhs rhs ≡ Err x → exec call (run (P.binary_next d w parent lhs op at rhs)) t ≡ R.Refused x t
 binary_refused call d w parent lhs op at rhs x t e =
-    let k : Node → Prog Node = λ y. Call (BinaryOp d w at parent y) (λ z. Ret z) in
+    let k : Node → Prog Node = λ y. Call (In (BinaryOp at parent y) d w) (λ z. Ret z) in
     ap (λ q. exec call q t) (binary_chosen k (boolean_holds op lhs) (boolean_holds op rhs) (operator_tree op at lhs rhs) (mismatched rhs) (mismatched lhs) ∙ ap (goes_with k) e)

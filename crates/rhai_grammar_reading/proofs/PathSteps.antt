@@ -8,9 +8,9 @@ use Rattle.rhai_grammar_reading.specs.Running.{Progress, next_item, after_peek, 
 use Rattle.rhai_grammar_reading.specs.Running.{result_of}
 use Rattle.rhai_grammar.specs.Productions.{Production, name as a_name, tested}
 use Rattle.rhai_grammar.specs.Rules.{call_of, call_on, path_next, postfix_of}
-use Rattle.rhai_grammar_reading.specs.Reading.{Call, Called, Fail, Path, Postfix, Prog, Ret, Take, run, run_from}
+use Rattle.rhai_grammar_reading.specs.Reading.{In, Call, Called, Fail, Path, Postfix, Prog, Ret, Take, run, run_from}
 use Rattle.rhai_grammar_reading.specs.Running as R
-use Rattle.rhai_grammar_reading.proofs.Steps.{and_then_done, guarded_is, nested_is, step_path, step_postfix}
+use Rattle.rhai_grammar_reading.proofs.Steps.{and_then_done, guarded_is, nested_is, run_step, step_path}
 use Rattle.rhai_grammar_reading.proofs.Tokens.{readable}
 
 colons_readable : (l : Lexeme) → qualifies l ≡ true → is_memory l ≡ false
@@ -117,11 +117,11 @@ call_if c w x called = if called then run (call_on c w x) else Ret x
 -- without a path
 pub name_alone : (c : Context) (w : Live) (x : Node) (called : Bool) (s t : Progress) → is_variable x ≡ true
     → is_memory (next_item s).lexeme ≡ false → qualifies (next_item s).lexeme ≡ false → called ≡ calls (next_item s).lexeme
-    → t ≡ after_peek s → result_of (Postfix c w x) s ≡ exec (guarded (Postfix c w x) s) (call_if c w x called) t
+    → t ≡ after_peek s → result_of (In (Postfix x) c w) s ≡ exec (guarded (In (Postfix x) c w) s) (call_if c w x called) t
 name_alone c w x called s t named can none is look =
-    let call = guarded (Postfix c w x) s in
+    let call = guarded (In (Postfix x) c w) s in
     let l = (next_item s).lexeme in
-    step_postfix c w x s
+    run_step (In (Postfix x) c w) s
     ∙ ap (λ m. if m then R.Refused out_of_memory (after_peek s) else exec call (run_from (postfix_of c w x) (Some (l, (next_item s).at))) (after_peek s)) can
     ∙ ap (λ v. exec call (if v && qualifies l then Call (Path w x) (λ y. run (call_of c w y)) else call_if c w x (v && calls l)) (after_peek s)) named
     ∙ ap (λ q. exec call (if q then Call (Path w x) (λ y. run (call_of c w y)) else call_if c w x (calls l)) (after_peek s)) none
@@ -130,25 +130,25 @@ name_alone c w x called s t named can none is look =
 
 -- where a path begins
 scoped_at : (c : Context) (w : Live) (x : Node) (s : Progress) → is_variable x ≡ true → qualifies (next_item s).lexeme ≡ true
-    → result_of (Postfix c w x) s ≡ R.and_then (result_of (Path w x) (after_peek s)) (λ y t.
-    exec (guarded (Postfix c w x) s) (run (call_of c w y)) t)
+    → result_of (In (Postfix x) c w) s ≡ R.and_then (result_of (Path w x) (after_peek s)) (λ y t.
+    exec (guarded (In (Postfix x) c w) s) (run (call_of c w y)) t)
 scoped_at c w x s named colons =
-    let call = guarded (Postfix c w x) s in
+    let call = guarded (In (Postfix x) c w) s in
     let l = (next_item s).lexeme in
     let on : Bool → Bool → R.Out Node =
     λ v q. exec call (if v && q then Call (Path w x) (λ y. run (call_of c w y)) else call_if c w x (v && calls l)) (after_peek s) in
-    step_postfix c w x s
+    run_step (In (Postfix x) c w) s
     ∙ ap (λ m. if m then R.Refused out_of_memory (after_peek s) else exec call (run_from (postfix_of c w x) (Some (l, (next_item s).at))) (after_peek s)) (colons_readable l colons)
     ∙ ap (λ v. on v (qualifies l)) named
     ∙ ap (on true) colons
-    ∙ ap (λ o. R.and_then o (λ y t. exec call (run (call_of c w y)) t)) (guarded_is (Postfix c w x) s (Path w x) (after_peek s) (omega arith))
+    ∙ ap (λ o. R.and_then o (λ y t. exec call (run (call_of c w y)) t)) (guarded_is (In (Postfix x) c w) s (Path w x) (after_peek s) (omega arith))
 
 pub name_scoped : (c : Context) (w : Live) (x y : Node) (called : Bool) (s s1 t u : Progress) → is_variable x ≡ true
     → is_variable y ≡ true → qualifies (next_item s).lexeme ≡ true → s1 ≡ after_peek s → result_of (Path w x) s1 ≡ R.Done y t
     → is_memory (next_item t).lexeme ≡ false → called ≡ calls (next_item t).lexeme → u ≡ after_peek t
-    → result_of (Postfix c w x) s ≡ exec (guarded (Postfix c w x) s) (call_if c w y called) u
+    → result_of (In (Postfix x) c w) s ≡ exec (guarded (In (Postfix x) c w) s) (call_if c w y called) u
 name_scoped c w x y called s s1 t u named again colons look path can is look_on =
-    let call = guarded (Postfix c w x) s in
+    let call = guarded (In (Postfix x) c w) s in
     let l = (next_item t).lexeme in
     scoped_at c w x s named colons
     ∙ ap (λ (v : Progress). R.and_then (result_of (Path w x) v) (λ z t. exec call (run (call_of c w z)) t)) (sym look)
@@ -160,51 +160,51 @@ name_scoped c w x y called s s1 t u named again colons look path can is look_on 
 
 pub scoped_refused : (c : Context) (w : Live) (x : Node) (e : Refusal) (s s1 t : Progress) → is_variable x ≡ true
     → qualifies (next_item s).lexeme ≡ true → s1 ≡ after_peek s → result_of (Path w x) s1 ≡ R.Refused e t
-    → result_of (Postfix c w x) s ≡ R.Refused e t
+    → result_of (In (Postfix x) c w) s ≡ R.Refused e t
 scoped_refused c w x e s s1 t named colons look path =
-    let call = guarded (Postfix c w x) s in
+    let call = guarded (In (Postfix x) c w) s in
     scoped_at c w x s named colons
     ∙ ap (λ (v : Progress). R.and_then (result_of (Path w x) v) (λ z t. exec call (run (call_of c w z)) t)) (sym look)
     ∙ ap (λ o. R.and_then o (λ z t. exec call (run (call_of c w z)) t)) path
 
 -- what calls a name, where the reading program comes to it
 pub name_called : (c : Context) (w : Live) (x y : Node) (called : Bool) (s t : Progress) → called ≡ true
-    → result_of (Postfix c w x) s ≡ exec (guarded (Postfix c w x) s) (call_if c w y called) t
+    → result_of (In (Postfix x) c w) s ≡ exec (guarded (In (Postfix x) c w) s) (call_if c w y called) t
     → left t.cursor.tokens ≤ left s.cursor.tokens
-    → result_of (Postfix c w x) s ≡ R.and_then (nested (result_of (Called c w (position_of y) (is_qualified y))) t) (λ a u.
-    exec (guarded (Postfix c w x) s) (run (tested (call_tree y a.0 a.1) (module_fault c w y))) u)
+    → result_of (In (Postfix x) c w) s ≡ R.and_then (nested (result_of (In (Called (position_of y) (is_qualified y)) c w)) t) (λ a u.
+    exec (guarded (In (Postfix x) c w) s) (run (tested (call_tree y a.0 a.1) (module_fault c w y))) u)
 name_called c w x y called s t is found short =
-    let call = guarded (Postfix c w x) s in
-    let g = Called c w (position_of y) (is_qualified y) in
+    let call = guarded (In (Postfix x) c w) s in
+    let g = In (Called (position_of y) (is_qualified y)) c w in
     found
     ∙ ap (λ b. exec call (call_if c w y b) t) is
-    ∙ ap (λ o. R.and_then o (λ a u. exec call (run (tested (call_tree y a.0 a.1) (module_fault c w y))) u)) (nested_is (Postfix c w x) s g t (omega (arith, short)))
+    ∙ ap (λ o. R.and_then o (λ a u. exec call (run (tested (call_tree y a.0 a.1) (module_fault c w y))) u)) (nested_is (In (Postfix x) c w) s g t (omega (arith, short)))
 
 -- where nothing calls it
 pub name_plain : (c : Context) (w : Live) (x y : Node) (called : Bool) (s t : Progress) → called ≡ false
-    → result_of (Postfix c w x) s ≡ exec (guarded (Postfix c w x) s) (call_if c w y called) t
-    → result_of (Postfix c w x) s ≡ R.Done y t
-name_plain c w x y called s t is found = found ∙ ap (λ b. exec (guarded (Postfix c w x) s) (call_if c w y b) t) is
+    → result_of (In (Postfix x) c w) s ≡ exec (guarded (In (Postfix x) c w) s) (call_if c w y called) t
+    → result_of (In (Postfix x) c w) s ≡ R.Done y t
+name_plain c w x y called s t is found = found ∙ ap (λ b. exec (guarded (In (Postfix x) c w) s) (call_if c w y b) t) is
 
 module _ (c : Context) (w : Live) (x y : Node) (called : Bool) (s t u : Progress) (is : called ≡ true)
-    (found : result_of (Postfix c w x) s ≡ exec (guarded (Postfix c w x) s) (call_if c w y called) t)
+    (found : result_of (In (Postfix x) c w) s ≡ exec (guarded (In (Postfix x) c w) s) (call_if c w y called) t)
     (short : left t.cursor.tokens ≤ left s.cursor.tokens) where
   abbrev rest : Bool × Nodes → Progress → R.Out Node
-  rest a v = exec (guarded (Postfix c w x) s) (run (tested (call_tree y a.0 a.1) (module_fault c w y))) v
+  rest a v = exec (guarded (In (Postfix x) c w) s) (run (tested (call_tree y a.0 a.1) (module_fault c w y))) v
 
   -- what calls it is refused
-  pub call_refused : (e : Refusal) → nested (result_of (Called c w (position_of y) (is_qualified y))) t ≡ R.Refused e u
-      → result_of (Postfix c w x) s ≡ R.Refused e u
+  pub call_refused : (e : Refusal) → nested (result_of (In (Called (position_of y) (is_qualified y)) c w)) t ≡ R.Refused e u
+      → result_of (In (Postfix x) c w) s ≡ R.Refused e u
   call_refused e given = name_called c w x y called s t is found short ∙ ap (λ o. R.and_then o rest) given
 
-  module _ (a : Bool × Nodes) (given : nested (result_of (Called c w (position_of y) (is_qualified y))) t ≡ R.Done a u) where
+  module _ (a : Bool × Nodes) (given : nested (result_of (In (Called (position_of y) (is_qualified y)) c w)) t ≡ R.Done a u) where
     -- its module is tested
-    pub call_given : module_fault c w y ≡ None → result_of (Postfix c w x) s ≡ R.Done (call_tree y a.0 a.1) u
+    pub call_given : module_fault c w y ≡ None → result_of (In (Postfix x) c w) s ≡ R.Done (call_tree y a.0 a.1) u
     call_given free =
         name_called c w x y called s t is found short ∙ ap (λ o. R.and_then o rest) given
-        ∙ ap (λ f. exec (guarded (Postfix c w x) s) (run (tested (call_tree y a.0 a.1) f)) u) free
+        ∙ ap (λ f. exec (guarded (In (Postfix x) c w) s) (run (tested (call_tree y a.0 a.1) f)) u) free
 
-    pub call_unknown : (e : Refusal) → module_fault c w y ≡ Some e → result_of (Postfix c w x) s ≡ R.Refused e u
+    pub call_unknown : (e : Refusal) → module_fault c w y ≡ Some e → result_of (In (Postfix x) c w) s ≡ R.Refused e u
     call_unknown e fault =
         name_called c w x y called s t is found short ∙ ap (λ o. R.and_then o rest) given
-        ∙ ap (λ f. exec (guarded (Postfix c w x) s) (run (tested (call_tree y a.0 a.1) f)) u) fault
+        ∙ ap (λ f. exec (guarded (In (Postfix x) c w) s) (run (tested (call_tree y a.0 a.1) f)) u) fault

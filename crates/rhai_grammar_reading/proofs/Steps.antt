@@ -14,13 +14,7 @@ use Rattle.rhai_grammar_reading.specs.Running.{exec}
 use Rattle.rhai_grammar_reading.specs.Running.{need, only_less, level, Gives, entering, guarded, leaving, left_so}
 use Rattle.rhai_grammar_reading.specs.Running.{nested}
 use Rattle.rhai_grammar_reading.specs.Running.{result_of}
-use Rattle.rhai_grammar_reading.specs.Reading.{Goal, Whole, Expression, Operand, Primary, Called, Links, Index}
-use Rattle.rhai_grammar_reading.specs.Reading.{Member, Postfix}
-use Rattle.rhai_grammar_reading.specs.Reading.{Arguments, Items, Elements, Fields, NextKey, NextOperator, BinaryOp}
-use Rattle.rhai_grammar_reading.specs.Reading.{Val, Prog}
-use Rattle.rhai_grammar_reading.specs.Reading.{Block, BlockEnd, Definition, ExprStatement, Initializer, Statement}
-use Rattle.rhai_grammar_reading.specs.Reading.{VarName}
-use Rattle.rhai_grammar_reading.specs.Reading.{BlockStart, Inside, Jump, Peek, Segments, TextAfter, body}
+use Rattle.rhai_grammar_reading.specs.Reading.{Goal, In, Peek, Prog, Val, What, body}
 use Rattle.rhai_grammar_reading.specs.Reading as G
 use Rattle.rhai_grammar.specs.declared.role.Construct.{Construct as Kind}
 use Rattle.rhai_grammar.specs.declared.role.OperandRole.{OperandRole}
@@ -107,254 +101,131 @@ looked g k s rule =
 
 -- ---- each reader's equation
 
-pub step_whole : (c : Context) (w : Live) (s : Progress)
-    → result_of (Whole c w) s ≡ exec (guarded (Whole c w) s) (body (Whole c w)) s
-step_whole c w s = run_step (Whole c w) s
+-- what a goal gives, by its rule
+abbrev Stepped : Goal → Type 0
+Stepped g = (s : Progress) → result_of g s ≡ exec (guarded g s) (body g) s
 
-pub step_expression : (c : Context) (w : Live) (s : Progress)
-    → result_of (Expression c w) s ≡ exec (guarded (Expression c w) s) (body (Expression c w)) s
-step_expression c w s = run_step (Expression c w) s
+-- the same in each context
+abbrev SteppedIn : What → Type 0
+SteppedIn what = (c : Context) (w : Live) → Stepped (In what c w)
 
-pub step_operand : (c : Context) (w : Live) (s : Progress)
-    → result_of (Operand c w) s ≡ exec (guarded (Operand c w) s) (body (Operand c w)) s
-step_operand c w s = run_step (Operand c w) s
-
-pub step_right_operand : (c : Context) (w : Live) (place : OperandRole) (s : Progress)
-    → result_of (G.RightOperand c w place) s
-    ≡ exec (guarded (G.RightOperand c w place) s) (body (G.RightOperand c w place)) s
-step_right_operand c w place s = run_step (G.RightOperand c w place) s
-
-pub step_primary : (c : Context) (w : Live) (s : Progress)
-    → result_of (Primary c w) s ≡ exec (guarded (Primary c w) s) (body (Primary c w)) s
-step_primary c w s = run_step (Primary c w) s
-
-pub step_called : (c : Context) (w : Live) (at : Position) (qualified : Bool) (s : Progress)
-    → result_of (Called c w at qualified) s
-    ≡ exec (guarded (Called c w at qualified) s) (body (Called c w at qualified)) s
-step_called c w at qualified s = run_step (Called c w at qualified) s
-
-pub step_path : (w : Live) (x : Node) (s : Progress)
-    → result_of (G.Path w x) s ≡ exec (guarded (G.Path w x) s) (body (G.Path w x)) s
+pub step_whole : SteppedIn G.Whole
+step_whole c w s = run_step (In G.Whole c w) s
+pub step_expression : SteppedIn G.Expression
+step_expression c w s = run_step (In G.Expression c w) s
+pub step_operand : SteppedIn G.Operand
+step_operand c w s = run_step (In G.Operand c w) s
+pub step_right_operand : (place : OperandRole) → SteppedIn (G.RightOperand place)
+step_right_operand place c w s = run_step (In (G.RightOperand place) c w) s
+pub step_primary : SteppedIn G.Primary
+step_primary c w s = run_step (In G.Primary c w) s
+pub step_called : (at : Position) (qualified : Bool) → SteppedIn (G.Called at qualified)
+step_called at qualified c w s = run_step (In (G.Called at qualified) c w) s
+pub step_path : (w : Live) (x : Node) → Stepped (G.Path w x)
 step_path w x s = run_step (G.Path w x) s
-
-pub step_links : (w : Live) (q : LinkSpot) (s : Progress)
-    → result_of (Links w q) s ≡ exec (guarded (Links w q) s) (body (Links w q)) s
-step_links w q s = run_step (Links w q) s
-
-pub step_index : (c : Context) (w : Live) (indexed : Option Node) (s : Progress)
-    → result_of (Index c w indexed) s ≡ exec (guarded (Index c w indexed) s) (body (Index c w indexed)) s
-step_index c w indexed s = run_step (Index c w indexed) s
-
-pub step_member : (c : Context) (w : Live) (s : Progress)
-    → result_of (Member c w) s ≡ exec (guarded (Member c w) s) (body (Member c w)) s
-step_member c w s = run_step (Member c w) s
-
-pub step_postfix : (c : Context) (w : Live) (x : Node) (s : Progress)
-    → result_of (Postfix c w x) s ≡ exec (guarded (Postfix c w x) s) (body (Postfix c w x)) s
-step_postfix c w x s = run_step (Postfix c w x) s
-
-pub step_arguments : (c : Context) (w : Live) (at : Position) (s : Progress)
-    → result_of (Arguments c w at) s ≡ exec (guarded (Arguments c w at) s) (body (Arguments c w at)) s
-step_arguments c w at s = run_step (Arguments c w at) s
-
-pub step_items : (c : Context) (w : Live) (before : Nodes) (s : Progress)
-    → result_of (Items c w before) s ≡ exec (guarded (Items c w before) s) (body (Items c w before)) s
-step_items c w before s = run_step (Items c w before) s
-
-pub step_elements : (c : Context) (w : Live) (at : Position) (before : Nodes) (s : Progress)
-    → result_of (Elements c w at before) s ≡ exec (guarded (Elements c w at before) s) (body (Elements c w at before)) s
-step_elements c w at before s = run_step (Elements c w at before) s
-
-pub step_fields : (c : Context) (w : Live) (at : Position) (before : Properties) (s : Progress)
-    → result_of (Fields c w at before) s ≡ exec (guarded (Fields c w at before) s) (body (Fields c w at before)) s
-step_fields c w at before s = run_step (Fields c w at before) s
-
-pub step_segments : (c : Context) (w : Live) (start : Position) (before : Nodes) (s : Progress)
-    → result_of (Segments c w start before) s
-    ≡ exec (guarded (Segments c w start before) s) (body (Segments c w start before)) s
-step_segments c w start before s = run_step (Segments c w start before) s
-
-pub step_text_after : (s : Progress) → result_of TextAfter s ≡ exec (guarded TextAfter s) (body TextAfter) s
-step_text_after s = run_step TextAfter s
-
-pub step_jump : (c : Context) (w : Live) (at : Position) (s : Progress)
-    → result_of (Jump c w at) s ≡ exec (guarded (Jump c w at) s) (body (Jump c w at)) s
-step_jump c w at s = run_step (Jump c w at) s
-
-pub step_block_start : (s : Progress) → result_of BlockStart s ≡ exec (guarded BlockStart s) (body BlockStart) s
-step_block_start s = run_step BlockStart s
-
-pub step_inside : (c : Context) (w : Live) (s : Progress)
-    → result_of (Inside c w) s ≡ exec (guarded (Inside c w) s) (body (Inside c w)) s
-step_inside c w s = run_step (Inside c w) s
-
-pub step_next_key : (c : Context) (before : Properties) (s : Progress)
-    → result_of (NextKey c before) s ≡ exec (guarded (NextKey c before) s) (body (NextKey c before)) s
-step_next_key c before s = run_step (NextKey c before) s
-
-pub step_next_operator : (filter : ExprFilter) (s : Progress)
-    → result_of (NextOperator filter) s ≡ exec (guarded (NextOperator filter) s) (body (NextOperator filter)) s
-step_next_operator filter s = run_step (NextOperator filter) s
-
-pub step_binary_op : (c : Context) (w : Live) (at : Position) (parent : ℕ) (lhs : Node) (s : Progress)
-    → result_of (BinaryOp c w at parent lhs) s ≡ exec (guarded (BinaryOp c w at parent lhs) s)
-    (body (BinaryOp c w at parent lhs)) s
-step_binary_op c w at parent lhs s = run_step (BinaryOp c w at parent lhs) s
-
-pub step_expr_statement : (c : Context) (w : Live) (s : Progress)
-    → result_of (ExprStatement c w) s ≡ exec (guarded (ExprStatement c w) s) (body (ExprStatement c w)) s
-step_expr_statement c w s = run_step (ExprStatement c w) s
-
-pub step_var_name : (c : Context) (w : Live) (s : Progress)
-    → result_of (VarName c w) s ≡ exec (guarded (VarName c w) s) (body (VarName c w)) s
-step_var_name c w s = run_step (VarName c w) s
-
-pub step_initializer : (c : Context) (w : Live) (at : Position) (s : Progress)
-    → result_of (Initializer c w at) s ≡ exec (guarded (Initializer c w at) s) (body (Initializer c w at)) s
-step_initializer c w at s = run_step (Initializer c w at) s
-
-pub step_definition : (c : Context) (w : Live) (at : Position) (constant exported : Bool) (s : Progress)
-    → result_of (Definition c w at constant exported) s
-    ≡ exec (guarded (Definition c w at constant exported) s) (body (Definition c w at constant exported)) s
-step_definition c w at constant exported s = run_step (Definition c w at constant exported) s
-
-pub step_import : (c : Context) (w : Live) (at : Position) (s : Progress)
-    → result_of (G.Import c w at) s ≡ exec (guarded (G.Import c w at) s) (body (G.Import c w at)) s
-step_import c w at s = run_step (G.Import c w at) s
-
-pub step_export : (c : Context) (w : Live) (at : Position) (s : Progress)
-    → result_of (G.Export c w at) s ≡ exec (guarded (G.Export c w at) s) (body (G.Export c w at)) s
-step_export c w at s = run_step (G.Export c w at) s
-
-pub step_alias : (s : Progress) → result_of G.Alias s ≡ exec (guarded G.Alias s) (body G.Alias) s
+pub step_links : (w : Live) (q : LinkSpot) → Stepped (G.Links w q)
+step_links w q s = run_step (G.Links w q) s
+pub step_index : (indexed : Option Node) → SteppedIn (G.Index indexed)
+step_index indexed c w s = run_step (In (G.Index indexed) c w) s
+pub step_member : SteppedIn G.Member
+step_member c w s = run_step (In G.Member c w) s
+pub step_postfix : (x : Node) → SteppedIn (G.Postfix x)
+step_postfix x c w s = run_step (In (G.Postfix x) c w) s
+pub step_arguments : (at : Position) → SteppedIn (G.Arguments at)
+step_arguments at c w s = run_step (In (G.Arguments at) c w) s
+pub step_items : (before : Nodes) → SteppedIn (G.Items before)
+step_items before c w s = run_step (In (G.Items before) c w) s
+pub step_elements : (at : Position) (before : Nodes) → SteppedIn (G.Elements at before)
+step_elements at before c w s = run_step (In (G.Elements at before) c w) s
+pub step_fields : (at : Position) (before : Properties) → SteppedIn (G.Fields at before)
+step_fields at before c w s = run_step (In (G.Fields at before) c w) s
+pub step_segments : (start : Position) (before : Nodes) → SteppedIn (G.Segments start before)
+step_segments start before c w s = run_step (In (G.Segments start before) c w) s
+pub step_text_after : Stepped G.TextAfter
+step_text_after s = run_step G.TextAfter s
+pub step_jump : (at : Position) → SteppedIn (G.Jump at)
+step_jump at c w s = run_step (In (G.Jump at) c w) s
+pub step_block_start : Stepped G.BlockStart
+step_block_start s = run_step G.BlockStart s
+pub step_inside : SteppedIn G.Inside
+step_inside c w s = run_step (In G.Inside c w) s
+pub step_next_key : (c : Context) (before : Properties) → Stepped (G.NextKey c before)
+step_next_key c before s = run_step (G.NextKey c before) s
+pub step_next_operator : (filter : ExprFilter) → Stepped (G.NextOperator filter)
+step_next_operator filter s = run_step (G.NextOperator filter) s
+pub step_binary_op : (at : Position) (parent : ℕ) (lhs : Node) → SteppedIn (G.BinaryOp at parent lhs)
+step_binary_op at parent lhs c w s = run_step (In (G.BinaryOp at parent lhs) c w) s
+pub step_expr_statement : SteppedIn G.ExprStatement
+step_expr_statement c w s = run_step (In G.ExprStatement c w) s
+pub step_var_name : SteppedIn G.VarName
+step_var_name c w s = run_step (In G.VarName c w) s
+pub step_initializer : (at : Position) → SteppedIn (G.Initializer at)
+step_initializer at c w s = run_step (In (G.Initializer at) c w) s
+pub step_definition : (at : Position) (constant exported : Bool) → SteppedIn (G.Definition at constant exported)
+step_definition at constant exported c w s = run_step (In (G.Definition at constant exported) c w) s
+pub step_import : (at : Position) → SteppedIn (G.Import at)
+step_import at c w s = run_step (In (G.Import at) c w) s
+pub step_export : (at : Position) → SteppedIn (G.Export at)
+step_export at c w s = run_step (In (G.Export at) c w) s
+pub step_alias : Stepped G.Alias
 step_alias s = run_step G.Alias s
-
-pub step_statement : (c : Context) (w : Live) (s : Progress)
-    → result_of (Statement c w) s ≡ exec (guarded (Statement c w) s) (body (Statement c w)) s
-step_statement c w s = run_step (Statement c w) s
-
-pub step_statements : (closing : Closing) (c : Context) (w : Live) (before : Statements) (s : Progress)
-    → result_of (G.Statements closing c w before) s
-    ≡ exec (guarded (G.Statements closing c w before) s) (body (G.Statements closing c w before)) s
-step_statements closing c w before s = run_step (G.Statements closing c w before) s
-
-pub step_block : (c : Context) (w : Live) (at : Position) (s : Progress)
-    → result_of (Block c w at) s ≡ exec (guarded (Block c w at) s) (body (Block c w at)) s
-step_block c w at s = run_step (Block c w at) s
-
-pub step_block_end : (at : Position) (fs : Statements) (s : Progress)
-    → result_of (BlockEnd at fs) s ≡ exec (guarded (BlockEnd at fs) s) (body (BlockEnd at fs)) s
-step_block_end at fs s = run_step (BlockEnd at fs) s
-
-pub step_construct : (c : Context) (w : Live) (at : Position) (kind : Kind) (s : Progress)
-    → result_of (G.Construct c w at kind) s
-    ≡ exec (guarded (G.Construct c w at kind) s) (body (G.Construct c w at kind)) s
-step_construct c w at kind s = run_step (G.Construct c w at kind) s
-
-pub step_braced : (c : Context) (w : Live) (at : Position) (s : Progress)
-    → result_of (G.Braced c w at) s ≡ exec (guarded (G.Braced c w at) s) (body (G.Braced c w at)) s
-step_braced c w at s = run_step (G.Braced c w at) s
-
-pub step_guard : (c : Context) (w : Live) (s : Progress)
-    → result_of (G.Guard c w) s ≡ exec (guarded (G.Guard c w) s) (body (G.Guard c w)) s
-step_guard c w s = run_step (G.Guard c w) s
-
-pub step_iterated : (c : Context) (w : Live) (s : Progress)
-    → result_of (G.Iterated c w) s ≡ exec (guarded (G.Iterated c w) s) (body (G.Iterated c w)) s
-step_iterated c w s = run_step (G.Iterated c w) s
-
-pub step_conditional : (c : Context) (w : Live) (at : Position) (s : Progress)
-    → result_of (G.Conditional c w at) s ≡ exec (guarded (G.Conditional c w at) s) (body (G.Conditional c w at)) s
-step_conditional c w at s = run_step (G.Conditional c w at) s
-
-pub step_branch : (c : Context) (w : Live) (at : Position) (s : Progress)
-    → result_of (G.Branch c w at) s ≡ exec (guarded (G.Branch c w at) s) (body (G.Branch c w at)) s
-step_branch c w at s = run_step (G.Branch c w at) s
-
-pub step_loop_names : (s : Progress) → result_of G.LoopNames s ≡ exec (guarded G.LoopNames s) (body G.LoopNames) s
+pub step_statement : SteppedIn G.Statement
+step_statement c w s = run_step (In G.Statement c w) s
+pub step_statements : (closing : Closing) (before : Statements) → SteppedIn (G.Statements closing before)
+step_statements closing before c w s = run_step (In (G.Statements closing before) c w) s
+pub step_block : (at : Position) → SteppedIn (G.Block at)
+step_block at c w s = run_step (In (G.Block at) c w) s
+pub step_block_end : (at : Position) (fs : Statements) → Stepped (G.BlockEnd at fs)
+step_block_end at fs s = run_step (G.BlockEnd at fs) s
+pub step_construct : (at : Position) (kind : Kind) → SteppedIn (G.Construct at kind)
+step_construct at kind c w s = run_step (In (G.Construct at kind) c w) s
+pub step_braced : (at : Position) → SteppedIn (G.Braced at)
+step_braced at c w s = run_step (In (G.Braced at) c w) s
+pub step_guard : SteppedIn G.Guard
+step_guard c w s = run_step (In G.Guard c w) s
+pub step_iterated : SteppedIn G.Iterated
+step_iterated c w s = run_step (In G.Iterated c w) s
+pub step_conditional : (at : Position) → SteppedIn (G.Conditional at)
+step_conditional at c w s = run_step (In (G.Conditional at) c w) s
+pub step_branch : (at : Position) → SteppedIn (G.Branch at)
+step_branch at c w s = run_step (In (G.Branch at) c w) s
+pub step_loop_names : Stepped G.LoopNames
 step_loop_names s = run_step G.LoopNames s
-
-pub step_catch : (s : Progress) → result_of G.Catch s ≡ exec (guarded G.Catch s) (body G.Catch) s
+pub step_catch : Stepped G.Catch
 step_catch s = run_step G.Catch s
-
-pub step_do_end : (s : Progress) → result_of G.DoEnd s ≡ exec (guarded G.DoEnd s) (body G.DoEnd) s
+pub step_do_end : Stepped G.DoEnd
 step_do_end s = run_step G.DoEnd s
-
-pub step_arms : (c : Context) (w : Live) (before : Collected) (s : Progress)
-    → result_of (G.Arms c w before) s ≡ exec (guarded (G.Arms c w before) s) (body (G.Arms c w before)) s
-step_arms c w before s = run_step (G.Arms c w before) s
-
-pub step_arm : (c : Context) (w : Live) (before : Collected) (s : Progress)
-    → result_of (G.Arm c w before) s ≡ exec (guarded (G.Arm c w before) s) (body (G.Arm c w before)) s
-step_arm c w before s = run_step (G.Arm c w before) s
-
-pub step_default_arm : (c : Context) (w : Live) (default : Position) (s : Progress)
-    → result_of (G.DefaultArm c w default) s
-    ≡ exec (guarded (G.DefaultArm c w default) s) (body (G.DefaultArm c w default)) s
-step_default_arm c w default s = run_step (G.DefaultArm c w default) s
-
-pub step_case : (c : Context) (w : Live) (s : Progress)
-    → result_of (G.Case c w) s ≡ exec (guarded (G.Case c w) s) (body (G.Case c w)) s
-step_case c w s = run_step (G.Case c w) s
-
-pub step_cases : (c : Context) (w : Live) (before : Nodes) (s : Progress)
-    → result_of (G.Cases c w before) s ≡ exec (guarded (G.Cases c w before) s) (body (G.Cases c w before)) s
-step_cases c w before s = run_step (G.Cases c w before) s
-
-pub step_case_guard : (c : Context) (w : Live) (s : Progress)
-    → result_of (G.CaseGuard c w) s ≡ exec (guarded (G.CaseGuard c w) s) (body (G.CaseGuard c w)) s
-step_case_guard c w s = run_step (G.CaseGuard c w) s
-
-pub step_action : (c : Context) (w : Live) (s : Progress)
-    → result_of (G.Action c w) s ≡ exec (guarded (G.Action c w) s) (body (G.Action c w)) s
-step_action c w s = run_step (G.Action c w) s
-
-pub step_arm_end : (itself : Bool) (s : Progress)
-    → result_of (G.ArmEnd itself) s ≡ exec (guarded (G.ArmEnd itself) s) (body (G.ArmEnd itself)) s
+pub step_arms : (before : Collected) → SteppedIn (G.Arms before)
+step_arms before c w s = run_step (In (G.Arms before) c w) s
+pub step_arm : (before : Collected) → SteppedIn (G.Arm before)
+step_arm before c w s = run_step (In (G.Arm before) c w) s
+pub step_default_arm : (default : Position) → SteppedIn (G.DefaultArm default)
+step_default_arm default c w s = run_step (In (G.DefaultArm default) c w) s
+pub step_case : SteppedIn G.Case
+step_case c w s = run_step (In G.Case c w) s
+pub step_cases : (before : Nodes) → SteppedIn (G.Cases before)
+step_cases before c w s = run_step (In (G.Cases before) c w) s
+pub step_case_guard : SteppedIn G.CaseGuard
+step_case_guard c w s = run_step (In G.CaseGuard c w) s
+pub step_action : SteppedIn G.Action
+step_action c w s = run_step (In G.Action c w) s
+pub step_arm_end : (itself : Bool) → Stepped (G.ArmEnd itself)
 step_arm_end itself s = run_step (G.ArmEnd itself) s
-
-pub step_comments : (before : List Comment) (s : Progress)
-    → result_of (G.Comments before) s ≡ exec (guarded (G.Comments before) s) (body (G.Comments before)) s
+pub step_comments : (before : List Comment) → Stepped (G.Comments before)
 step_comments before s = run_step (G.Comments before) s
-
-pub step_function_statement : (c : Context) (w : Live) (comments : List Comment) (first at : Position) (is_private : Bool)
-    (s : Progress)
-    → result_of (G.FunctionStatement c w comments first at is_private) s
-    ≡ exec (guarded (G.FunctionStatement c w comments first at is_private) s)
-    (body (G.FunctionStatement c w comments first at is_private)) s
-step_function_statement c w comments first at is_private s =
-    run_step (G.FunctionStatement c w comments first at is_private) s
-
-pub step_function : (c : Context) (comments : List Comment) (at : Position) (is_private : Bool) (s : Progress)
-    → result_of (G.Function c comments at is_private) s
-    ≡ exec (guarded (G.Function c comments at is_private) s) (body (G.Function c comments at is_private)) s
+pub step_function_statement : (comments : List Comment) (first at : Position) (is_private : Bool) → SteppedIn (G.FunctionStatement comments first at is_private)
+step_function_statement comments first at is_private c w s = run_step (In (G.FunctionStatement comments first at is_private) c w) s
+pub step_function : (c : Context) (comments : List Comment) (at : Position) (is_private : Bool) → Stepped (G.Function c comments at is_private)
 step_function c comments at is_private s = run_step (G.Function c comments at is_private) s
-
-pub step_function_head : (s : Progress)
-    → result_of G.FunctionHead s ≡ exec (guarded G.FunctionHead s) (body G.FunctionHead) s
+pub step_function_head : Stepped G.FunctionHead
 step_function_head s = run_step G.FunctionHead s
-
-pub step_parameter_list : (function : Text) (s : Progress)
-    → result_of (G.ParameterList function) s
-    ≡ exec (guarded (G.ParameterList function) s) (body (G.ParameterList function)) s
+pub step_parameter_list : (function : Text) → Stepped (G.ParameterList function)
 step_parameter_list function s = run_step (G.ParameterList function) s
-
-pub step_parameters : (parts : CommaList) (function : Text) (before : List Text) (s : Progress)
-    → result_of (G.Parameters parts function before) s
-    ≡ exec (guarded (G.Parameters parts function before) s) (body (G.Parameters parts function before)) s
+pub step_parameters : (parts : CommaList) (function : Text) (before : List Text) → Stepped (G.Parameters parts function before)
 step_parameters parts function before s = run_step (G.Parameters parts function before) s
-
-pub step_closure : (c : Context) (w : Live) (at : Position) (by : Bars) (s : Progress)
-    → result_of (G.Closure c w at by) s
-    ≡ exec (guarded (G.Closure c w at by) s) (body (G.Closure c w at by)) s
-step_closure c w at by s = run_step (G.Closure c w at by) s
-
-pub step_closure_body : (c : Context) (w : Live) (s : Progress)
-    → result_of (G.ClosureBody c w) s
-    ≡ exec (guarded (G.ClosureBody c w) s) (body (G.ClosureBody c w)) s
-step_closure_body c w s = run_step (G.ClosureBody c w) s
-
-pub step_default_end : (default : Position) (s : Progress)
-    → result_of (G.DefaultEnd default) s
-    ≡ exec (guarded (G.DefaultEnd default) s) (body (G.DefaultEnd default)) s
+pub step_closure : (at : Position) (by : Bars) → SteppedIn (G.Closure at by)
+step_closure at by c w s = run_step (In (G.Closure at by) c w) s
+pub step_closure_body : SteppedIn G.ClosureBody
+step_closure_body c w s = run_step (In G.ClosureBody c w) s
+pub step_default_end : (default : Position) → Stepped (G.DefaultEnd default)
 step_default_end default s = run_step (G.DefaultEnd default) s

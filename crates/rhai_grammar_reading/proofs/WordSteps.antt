@@ -5,7 +5,7 @@ use Rattle.rhai_grammar.specs.Prelude.{Context, Live}
 use Rattle.rhai_grammar.specs.declared.role.Beginning.{Beginning}
 use Rattle.rhai_grammar_reading.specs.Running.{Progress, next_item, after_peek, after_take, exec, guarded, result_of}
 use Rattle.rhai_grammar.specs.Rules.{primary_by}
-use Rattle.rhai_grammar_reading.specs.Reading.{Peek, Primary, Prog, Take, run_from}
+use Rattle.rhai_grammar_reading.specs.Reading.{In, Peek, Primary, Prog, Take, run_from}
 use Rattle.rhai_grammar_reading.specs.Running as R
 use Rattle.rhai_grammar_reading.proofs.Steps.{step_primary}
 
@@ -28,9 +28,9 @@ Rest = Text → Position → Lexeme → Position → Prog Node
 pub worded : (c : Context) (w : Live) {kind : Beginning} {test : Lexeme → Bool} (k : Rest)
     → ((l : Lexeme) (p : Position) → run_from (primary_by c w kind) (Some (l, p)) ≡ Take (Peek (k (text_of l) p)))
     → {word : Text} {at : Position} {holds : Bool} {s s1 s2 t : Progress} → Worded kind test word at holds s s1 s2 t
-    → result_of (Primary c w) s ≡ exec (guarded (Primary c w) s) (k word at (next_item s2).lexeme (next_item s2).at) t
+    → result_of (In Primary c w) s ≡ exec (guarded (In Primary c w) s) (k word at (next_item s2).lexeme (next_item s2).at) t
 worded c w k rule {word} {at} {holds} {s} {s1} {s2} {t} h =
-    let call = guarded (Primary c w) s in
+    let call = guarded (In Primary c w) s in
     let u = after_take s in
     let here : s2 ≡ u = h.took ∙ ap after_take h.look in
     let readable : is_memory (next_item u).lexeme ≡ false = ap (λ (v : Progress). is_memory (next_item v).lexeme) (sym here) ∙ h.readable_on in

@@ -7,15 +7,15 @@ use Rattle.rhai_grammar.specs.Views.{view}
 use Rattle.rhai_grammar.specs.Productions.{Production, give, never, take, this, choose, if_next, here, must, checked}
 use Rattle.rhai_grammar.specs.Productions.{knows, adds, uses, captures, part, literal, apart, in_text, due}
 use Rattle.rhai_grammar.specs.Rules.{production}
-pub use Rattle.rhai_grammar.specs.Goals.{Goal, Whole, Expression, Operand, Primary, Called, Links, Index, Member}
-pub use Rattle.rhai_grammar.specs.Goals.{Postfix, Arguments, Items, Elements, Fields, Segments, TextAfter, Jump}
-pub use Rattle.rhai_grammar.specs.Goals.{NextKey, NextOperator, BinaryOp, ExprStatement, VarName, Initializer}
-pub use Rattle.rhai_grammar.specs.Goals.{Definition, Statement, Statements, BlockStart, Inside, Block, BlockEnd}
-pub use Rattle.rhai_grammar.specs.Goals.{Branch, Braced, Catch, Conditional, Construct, DoEnd, Guard, Iterated}
-pub use Rattle.rhai_grammar.specs.Goals.{Alias, Export, Import, LoopNames, Path, RightOperand}
-pub use Rattle.rhai_grammar.specs.Goals.{Action, Arm, ArmEnd, Arms, Case, CaseGuard, Cases, DefaultArm}
-pub use Rattle.rhai_grammar.specs.Goals.{Comments, DefaultEnd, Function, FunctionHead, FunctionStatement, ParameterList}
-pub use Rattle.rhai_grammar.specs.Goals.{Closure, ClosureBody, Parameters, Script, Val}
+pub use Rattle.rhai_grammar.specs.Goals.{Goal, Given, What, Val, Script, In, Action, Alias, Arguments, Arm, ArmEnd}
+pub use Rattle.rhai_grammar.specs.Goals.{Arms, BinaryOp, Block, BlockEnd, BlockStart, Braced, Branch, Called, Case}
+pub use Rattle.rhai_grammar.specs.Goals.{CaseGuard, Cases, Catch, Closure, ClosureBody, Comments, Conditional}
+pub use Rattle.rhai_grammar.specs.Goals.{Construct, DefaultArm, DefaultEnd, Definition, DoEnd, Elements, Export}
+pub use Rattle.rhai_grammar.specs.Goals.{ExprStatement, Expression, Fields, Function, FunctionHead, FunctionStatement}
+pub use Rattle.rhai_grammar.specs.Goals.{Guard, Import, Index, Initializer, Inside, Items, Iterated, Jump, Links}
+pub use Rattle.rhai_grammar.specs.Goals.{LoopNames, Member, NextKey, NextOperator, Operand, ParameterList, Parameters}
+pub use Rattle.rhai_grammar.specs.Goals.{Path, Postfix, Primary, RightOperand, Segments, Statement, Statements}
+pub use Rattle.rhai_grammar.specs.Goals.{TextAfter, VarName, Whole}
 pub use Rattle.rhai_grammar_reading.specs.Terms.{Ret, Fail, Peek, Take, TakeText, Know, Add, Note, Call, CallLiteral, CallApart}
 pub use Rattle.rhai_grammar_reading.specs.Terms.{Prog}
 

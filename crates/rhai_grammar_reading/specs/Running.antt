@@ -7,23 +7,15 @@ use Rattle.rhai_grammar.specs.Cursors as cursors
 use Rattle.rhai_grammar.specs.declared.error.ParseError.{ParseError}
 use Rattle.rhai_grammar_reading.specs.Moves as moves
 use Rattle.rhai_grammar_reading.specs.Moves.{Moves, Outcome}
-use Rattle.rhai_grammar.specs.Goals.{is_counted}
+use Rattle.rhai_grammar.specs.Goals.{In, is_counted}
 use Rattle.rhai_grammar_reading.specs.Nesting.{Nesting, entered, left_one}
 pub use Rattle.rhai_grammar_reading.specs.Moves.{Done, Refused, Unfinished, and_then, recast}
-use Rattle.rhai_grammar_reading.specs.Reading.{Goal, Whole, Expression, Operand, Primary, Postfix, Arguments, Items}
-use Rattle.rhai_grammar_reading.specs.Reading.{Elements}
-use Rattle.rhai_grammar_reading.specs.Reading.{Fields, NextKey, Called, Links, Index, Member, NextOperator, BinaryOp}
-use Rattle.rhai_grammar_reading.specs.Reading.{Val}
-use Rattle.rhai_grammar_reading.specs.Reading.{ExprStatement, VarName, Initializer, Definition, Statement, Statements}
-use Rattle.rhai_grammar_reading.specs.Reading.{Block}
-use Rattle.rhai_grammar_reading.specs.Reading.{BlockEnd, BlockStart, Inside, Jump, Prog, Segments, TextAfter, Alias}
-use Rattle.rhai_grammar_reading.specs.Reading.{Export}
-use Rattle.rhai_grammar_reading.specs.Reading.{Import, Path, Branch, Braced, Catch, Conditional, Construct, DoEnd}
-use Rattle.rhai_grammar_reading.specs.Reading.{Guard}
-use Rattle.rhai_grammar_reading.specs.Reading.{Iterated, LoopNames, Action, Arm, ArmEnd, Arms, Case, CaseGuard, Cases}
-use Rattle.rhai_grammar_reading.specs.Reading.{DefaultArm, DefaultEnd, RightOperand, Closure, ClosureBody, Comments}
-use Rattle.rhai_grammar_reading.specs.Reading.{Function}
-use Rattle.rhai_grammar_reading.specs.Reading.{FunctionHead, FunctionStatement, ParameterList, Parameters, body}
+use Rattle.rhai_grammar_reading.specs.Reading.{Action, Arguments, Arm, Arms, BinaryOp, Block, Braced, Branch, Called}
+use Rattle.rhai_grammar_reading.specs.Reading.{CaseGuard, Cases, Closure, ClosureBody, Conditional, Construct}
+use Rattle.rhai_grammar_reading.specs.Reading.{DefaultArm, Definition, Export, Expression, Function}
+use Rattle.rhai_grammar_reading.specs.Reading.{FunctionStatement, Goal, In, Initializer, Inside, Links, Member}
+use Rattle.rhai_grammar_reading.specs.Reading.{Operand, Postfix, Primary, Prog, RightOperand, Segments, Statement}
+use Rattle.rhai_grammar_reading.specs.Reading.{Statements, Val, VarName, What, Whole, body}
 
 -- What is left of a stream, the functions that have ended, the names that the closure around has captured, and how
 -- deeply readers are nested.
@@ -94,68 +86,47 @@ text_from = moves.text_from steps
 abbrev pub exec : {A : Type 0} → Caller → Prog A → Progress → Out A
 exec = moves.exec steps
 
--- A call at the same token is one to a goal of lower rank.
+-- A call at the same token is one to a goal of lower rank. Those of 4 begin with an expression.
+abbrev pub rank_in : What → ℕ
+rank_in (Called at qualified) = 0
+rank_in Member = 0
+rank_in VarName = 0
+rank_in (Initializer at) = 0
+rank_in (DefaultArm default) = 0
+rank_in CaseGuard = 0
+rank_in Primary = 1
+rank_in (Postfix x) = 1
+rank_in (Segments start before) = 1
+rank_in (BinaryOp at parent lhs) = 1
+rank_in (Definition at constant exported) = 1
+rank_in (Export at) = 1
+rank_in (Braced at) = 1
+rank_in Operand = 2
+rank_in (Branch at) = 2
+rank_in (FunctionStatement comments first at is_private) = 2
+rank_in Expression = 3
+rank_in Whole = 5
+rank_in (Arguments at) = 5
+rank_in Statement = 5
+rank_in (Conditional at) = 5
+rank_in (Cases before) = 5
+rank_in (RightOperand place) = 6
+rank_in (Statements closing before) = 6
+rank_in (Arm before) = 6
+rank_in Action = 6
+rank_in ClosureBody = 6
+rank_in Inside = 7
+rank_in (Arms before) = 7
+rank_in (Closure at bars) = 7
+rank_in (Block at) = 8
+rank_in (Construct at kind) = 9
+rank_in _ = 4
+
 abbrev pub rank : Goal → ℕ
-rank (Whole context live) = 5
-rank (Expression context live) = 3
-rank (Operand context live) = 2
-rank (RightOperand context live place) = 6
-rank (Primary context live) = 1
-rank (Postfix context live x) = 1
-rank (Arguments context live at) = 5
-rank (Items context live before) = 4
-rank (Elements context live at before) = 4
-rank (Fields context live at before) = 4
-rank (Segments context live start before) = 1
-rank TextAfter = 0
-rank (Jump context live at) = 4
-rank (NextKey context before) = 0
-rank (Called context live at qualified) = 0
-rank (Path live x) = 0
+rank (In what context live) = rank_in what
 rank (Links live spot) = 1
-rank (Index context live indexed) = 4
-rank (Member context live) = 0
-rank (NextOperator filter) = 0
-rank (BinaryOp context live at parent lhs) = 1
-rank (ExprStatement context live) = 4
-rank (VarName context live) = 0
-rank (Initializer context live at) = 0
-rank (Definition context live at constant exported) = 1
-rank (Import context live at) = 4
-rank (Export context live at) = 1
-rank Alias = 0
-rank (Statement context live) = 5
-rank (Statements closing context live before) = 6
-rank BlockStart = 0
-rank (Inside context live) = 7
-rank (Block context live at) = 8
-rank (BlockEnd at fs) = 0
-rank (Construct context live at kind) = 9
-rank (Braced context live at) = 1
-rank (Guard context live) = 4
-rank (Iterated context live) = 4
-rank (Conditional context live at) = 5
-rank (Branch context live at) = 2
-rank LoopNames = 0
-rank Catch = 0
-rank DoEnd = 0
-rank (Arms context live before) = 7
-rank (Arm context live before) = 6
-rank (DefaultArm context live default) = 0
-rank (Cases context live before) = 5
-rank (Case context live) = 4
-rank (CaseGuard context live) = 0
-rank (Action context live) = 6
-rank (ArmEnd itself) = 0
-rank (DefaultEnd default) = 0
-rank (Comments before) = 0
-rank (FunctionStatement context live comments first at is_private) = 2
 rank (Function context comments at is_private) = 1
-rank FunctionHead = 0
-rank (ParameterList function) = 0
-rank (Parameters parts function before) = 0
-rank (Closure context live at bars) = 7
-rank (ClosureBody context live) = 6
+rank _ = 0
 
 -- the work that is left, above every rank for each token
 abbrev pub work : ℕ → ℕ → ℕ
