@@ -7,8 +7,8 @@ use Rattle.rhai_grammar.specs.Uses.{Use, with_use}
 use Rattle.rhai_grammar.specs.Libraries.{Ended, Library, with_ended, is_function}
 use Rattle.rhai_grammar.specs.Goals.{Goal, Val}
 use Rattle.rhai_grammar.specs.Productions.{Production}
-use Rattle.rhai_grammar.specs.Forms.{given, take, this, if_so, if_not, choose, here, must, checked, knows, adds, uses}
-use Rattle.rhai_grammar.specs.Forms.{captures, part, literal, apart, in_text, form, open_form, never_here, take_here}
+use Rattle.rhai_grammar.specs.Forms.{given, of_kind, any, if_so, if_not, by_next, at_next, must, checked, knows, adds, uses}
+use Rattle.rhai_grammar.specs.Forms.{captures, part, literal, apart, in_text, form, open_form, never_here, of_kind_here}
 use Rattle.rhai_grammar.specs.Forms.{must_here, checked_here, knows_here, uses_here, captures_here, part_here}
 use Rattle.rhai_grammar.specs.Forms.{literal_here, apart_here}
 use Rattle.rhai_grammar.specs.Forms.{brace_here, text_here, Form, Filled, Open, FilledIn}
@@ -55,12 +55,12 @@ module _ (rule : (g : Goal) → Production (Val g)) where
 
     pub spelling_in : {h : Goal} {p : Production (Val h)} {x : Val h} → Filled rule h p x → List Taken
     spelling_in given = []
-    spelling_in (take l at f) = taken code l at ∷ spelling_in f
-    spelling_in (this l at f) = taken code l at ∷ spelling_in f
+    spelling_in (of_kind l at f) = taken code l at ∷ spelling_in f
+    spelling_in (any l at f) = taken code l at ∷ spelling_in f
     spelling_in (if_so f) = spelling_in f
     spelling_in (if_not f) = spelling_in f
-    spelling_in (choose l at f) = spelling_in f
-    spelling_in (here l at f) = spelling_in f
+    spelling_in (by_next l at f) = spelling_in f
+    spelling_in (at_next l at f) = spelling_in f
     spelling_in (must f) = spelling_in f
     spelling_in (checked f) = spelling_in f
     spelling_in (knows f) = spelling_in f
@@ -84,13 +84,13 @@ module _ (rule : (g : Goal) → Production (Val g)) where
     pub events_in : {h : Goal} {p : Production (Val h)} {r : Option (Val h)} → FilledIn rule h p r → List Event
     events_in given = []
     events_in never_here = []
-    events_in (take l at f) = events_in f
-    events_in take_here = []
-    events_in (this l at f) = events_in f
+    events_in (of_kind l at f) = events_in f
+    events_in of_kind_here = []
+    events_in (any l at f) = events_in f
     events_in (if_so f) = events_in f
     events_in (if_not f) = events_in f
-    events_in (choose l at f) = events_in f
-    events_in (here l at f) = events_in f
+    events_in (by_next l at f) = events_in f
+    events_in (at_next l at f) = events_in f
     events_in (must f) = events_in f
     events_in must_here = []
     events_in (checked f) = events_in f

@@ -65,21 +65,21 @@ module _ (rule : (g : Goal) → Production (Val g)) where
     pub data FilledIn : (h : Goal) → Production (Val h) → Option (Val h) → Type 0 where
       given : {h : Goal} {x : Val h} → FilledIn h (S.give x) (Some x)
       never_here : {h : Goal} {why : Lexeme → Cause} → FilledIn h (S.never why) None
-      take : {h : Goal} {w : Lexeme → Bool} {m : Lexeme → Cause} {k : Lexeme → Position → Production (Val h)}
-          {r : Option (Val h)} (l : Lexeme) (at : Position) → FilledIn h (k l at) r → FilledIn h (S.take w m k) r
-      take_here : {h : Goal} {w : Lexeme → Bool} {m : Lexeme → Cause} {k : Lexeme → Position → Production (Val h)}
-          → FilledIn h (S.take w m k) None
-      this : {h : Goal} {k : Lexeme → Position → Production (Val h)} {r : Option (Val h)} (l : Lexeme) (at : Position)
-          → FilledIn h (k l at) r → FilledIn h (S.this k) r
+      of_kind : {h : Goal} {w : Lexeme → Bool} {m : Lexeme → Cause} {k : Lexeme → Position → Production (Val h)}
+          {r : Option (Val h)} (l : Lexeme) (at : Position) → FilledIn h (k l at) r → FilledIn h (S.of_kind w m k) r
+      of_kind_here : {h : Goal} {w : Lexeme → Bool} {m : Lexeme → Cause} {k : Lexeme → Position → Production (Val h)}
+          → FilledIn h (S.of_kind w m k) None
+      any : {h : Goal} {k : Lexeme → Position → Production (Val h)} {r : Option (Val h)} (l : Lexeme) (at : Position)
+          → FilledIn h (k l at) r → FilledIn h (S.any k) r
       if_so : {h : Goal} {t : Lexeme → Bool} {p q : Production (Val h)} {r : Option (Val h)} → FilledIn h p r
           → FilledIn h (S.if_next t p q) r
       if_not : {h : Goal} {t : Lexeme → Bool} {p q : Production (Val h)} {r : Option (Val h)} → FilledIn h q r
           → FilledIn h (S.if_next t p q) r
       -- the token that comes next is named, and is not one of the form's
-      choose : {h : Goal} {v : View} {k : SeenBy v → Production (Val h)} {r : Option (Val h)} (l : Lexeme) (at : Position)
-          → FilledIn h (k (view v l)) r → FilledIn h (S.choose v k) r
-      here : {h : Goal} {k : Position → Production (Val h)} {r : Option (Val h)} (l : Lexeme) (at : Position)
-          → FilledIn h (k at) r → FilledIn h (S.here k) r
+      by_next : {h : Goal} {v : View} {k : SeenBy v → Production (Val h)} {r : Option (Val h)} (l : Lexeme) (at : Position)
+          → FilledIn h (k (view v l)) r → FilledIn h (S.by_next v k) r
+      at_next : {h : Goal} {k : Position → Production (Val h)} {r : Option (Val h)} (l : Lexeme) (at : Position)
+          → FilledIn h (k at) r → FilledIn h (S.at_next k) r
       must : {h : Goal} {b : Bool} {e : Refusal} {p : Production (Val h)} {r : Option (Val h)} → FilledIn h p r
           → FilledIn h (S.must b e p) r
       must_here : {h : Goal} {b : Bool} {e : Refusal} {p : Production (Val h)} → FilledIn h (S.must b e p) None
@@ -137,13 +137,13 @@ module _ (rule : (g : Goal) → Production (Val g)) where
     pub demanded : {h : Goal} {p : Production (Val h)} {r : Option (Val h)} → FilledIn h p r → Demands → Demands
     demanded given more = more
     demanded (never_here {why = why}) more = Next (λ l. Wrong (why l)) ▸ Nothing
-    demanded (take {w = w} {m = m} l at f) more = Next (wanted_or w m) ▸ Tok code (item l at) anything ▸ demanded f more
-    demanded (take_here {w = w} {m = m}) more = Next (wanted_or w m) ▸ Nothing
-    demanded (this l at f) more = Next any_token ▸ Tok code (item l at) anything ▸ demanded f more
+    demanded (of_kind {w = w} {m = m} l at f) more = Next (wanted_or w m) ▸ Tok code (item l at) anything ▸ demanded f more
+    demanded (of_kind_here {w = w} {m = m}) more = Next (wanted_or w m) ▸ Nothing
+    demanded (any l at f) more = Next any_token ▸ Tok code (item l at) anything ▸ demanded f more
     demanded (if_so {t = t} f) more = Next (only_if t) ▸ demanded f more
     demanded (if_not {t = t} f) more = Next (only_if_not t) ▸ demanded f more
-    demanded (choose l at f) more = Next any_token ▸ Ahead (item l at) anything ▸ demanded f more
-    demanded (here l at f) more = Next any_token ▸ Ahead (item l at) anything ▸ demanded f more
+    demanded (by_next l at f) more = Next any_token ▸ Ahead (item l at) anything ▸ demanded f more
+    demanded (at_next l at f) more = Next any_token ▸ Ahead (item l at) anything ▸ demanded f more
     demanded (must {b = b} {e = e} f) more = Test b e ▸ demanded f more
     demanded (must_here {b = b} {e = e}) more = Test b e ▸ Nothing
     demanded (checked {e = e} f) more = NoFault e ▸ demanded f more
@@ -179,12 +179,12 @@ module _ (rule : (g : Goal) → Production (Val g)) where
 
     pub depth_in : {h : Goal} {p : Production (Val h)} {x : Val h} → Filled h p x → ℕ
     depth_in given = 0
-    depth_in (take l at f) = depth_in f
-    depth_in (this l at f) = depth_in f
+    depth_in (of_kind l at f) = depth_in f
+    depth_in (any l at f) = depth_in f
     depth_in (if_so f) = depth_in f
     depth_in (if_not f) = depth_in f
-    depth_in (choose l at f) = depth_in f
-    depth_in (here l at f) = depth_in f
+    depth_in (by_next l at f) = depth_in f
+    depth_in (at_next l at f) = depth_in f
     depth_in (must f) = depth_in f
     depth_in (checked f) = depth_in f
     depth_in (knows f) = depth_in f

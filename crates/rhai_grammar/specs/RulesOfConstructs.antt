@@ -9,14 +9,14 @@ use Rattle.rhai_grammar.specs.Contexts.{Context, Live, below_global, in_block, l
 use Rattle.rhai_grammar.specs.Definitions.{catch_live, loop_live}
 use Rattle.rhai_grammar.specs.Trees.{catch_node, caught_name, no_block}
 use Rattle.rhai_grammar.specs.Constructs.{guard_expected, guard_fault, iterated_fault, no_assignment}
-use Rattle.rhai_grammar.specs.DueTokens.{is_due, not_due}
+use Rattle.rhai_grammar.specs.DueTokens.{is_due}
 use Rattle.rhai_grammar.specs.Beginnings.{missing}
 use Rattle.rhai_grammar.specs.Switches.{nothing_collected, switch_tree}
 use Rattle.rhai_grammar.specs.Causes.{refusal}
 use Rattle.rhai_grammar.specs.declared.role.Closing.TheVariants.{Brace}
 use Rattle.rhai_grammar.specs.declared.role.Construct.{Construct as Kind}
-use Rattle.rhai_grammar.specs.Productions.{Production, checked, due, give, if_next, name, never, part, raise, take}
-use Rattle.rhai_grammar.specs.Productions.{tested, this, unless}
+use Rattle.rhai_grammar.specs.Productions.{Production, checked, due, due_at, give, name, never, no_next, optional, part}
+use Rattle.rhai_grammar.specs.Productions.{part_in, raise, tested, any, unless, ◌▸◌}
 use Rattle.rhai_lower.specs.Nodes as node
 use Rattle.rhai_grammar.specs.Causes as cause
 use Rattle.rhai_grammar.specs.declared.due.DueToken.TheVariants as due_token
@@ -25,70 +25,77 @@ use Rattle.rhai_grammar.specs.Goals as goal
 
 -- the `{` of a block
 abbrev pub block_start : Production Position
-block_start = take (is_due due_token.LeftBrace) (not_due due_token.LeftBrace) (λ _ at. give at)
+block_start = due_at due_token.LeftBrace give
 
 -- the `}` of a block of these statements
 abbrev pub block_end : Position → node.Statements → Production node.Block
-block_end at fs = take (is_due due_token.RightBrace) (not_due due_token.RightBrace) (λ _ end. give (braces fs at end))
+block_end at fs = due_at due_token.RightBrace λ end. give (braces fs at end)
 
 -- what is in a block: one expression or assignment where no statements are allowed, else statements
 abbrev pub inside_by : Context → Live → Bool → Production node.Statements
-inside_by context live true = part (goal.In goal.ExprStatement context live) (λ f. give (one_statement f no_statements))
-inside_by context live false = part (goal.In (goal.Statements Brace no_statements) (below_global context) (in_block live)) (λ fs.
-    give fs.0)
+inside_by context live true = part_in goal.ExprStatement context live λ f. give (one_statement f no_statements)
+inside_by context live false =
+    part_in (goal.Statements Brace no_statements) (below_global context) (in_block live) λ fs.
+    give fs.0
 
 -- what is in a block, and its `}`
 --     block = "{" statements "}"
 abbrev pub block_of : Context → Live → Position → Production node.Block
-block_of context live at = part (goal.In goal.Inside context live) (λ fs. part (goal.BlockEnd at fs) give)
+block_of context live at = part_in goal.Inside context live λ fs. part (goal.BlockEnd at fs) give
 
 -- a block from its `{`, one level deeper than its construct
 abbrev pub braced : Context → Live → Position → Production node.Block
-braced context live at = part goal.BlockStart (λ opening. raise context at (λ deeper.
-    part (goal.In (goal.Block opening) deeper live) give))
+braced context live at = part goal.BlockStart λ opening.
+    raise context at λ deeper. part_in (goal.Block opening) deeper live give
 
 -- after the expression of a guard: it may be a truth value, and is no assignment
 abbrev pub guard_on : Node → Production Node
-guard_on x = checked (guard_fault x) (if_next (is_due due_token.Equals) (never (λ _. no_assignment)) (give x))
+guard_on x = checked (guard_fault x) ▸ no_next (is_due due_token.Equals) (λ _. no_assignment) ▸ give x
 
 -- an expression that may be a guard; it begins with no `{`
 --     guard = expression
 abbrev pub guard : Context → Live → Production Node
-guard context live = if_next (is_due due_token.LeftBrace) (never (λ _. guard_expected))
-    (part (goal.In goal.Expression context live) guard_on)
+guard context live = no_next (is_due due_token.LeftBrace) (λ _. guard_expected)
+    ▸ part_in goal.Expression context live guard_on
 
 -- what `for` goes over: an expression that begins with no `{` and may be iterated
 abbrev pub iterated : Context → Live → Production Node
-iterated context live = if_next (is_due due_token.LeftBrace) (never (λ _. guard_expected))
-    (part (goal.In goal.Expression context live) (λ x. tested x (iterated_fault x)))
+iterated context live = no_next (is_due due_token.LeftBrace) (λ _. guard_expected)
+    ▸ part_in goal.Expression context live λ x. tested x (iterated_fault x)
 
 -- a guard, a block, and what follows `else`
 --     if = "if" guard block [ "else" ( block | if ) ]
 abbrev pub conditional : Context → Live → Position → Production node.Statement
-conditional context live at = part (goal.In goal.Guard context live) (λ x. part (goal.In (goal.Braced at) context live) (λ b.
-    part (goal.In (goal.Branch at) context live) (λ e. give (if_statement x b e at))))
+conditional context live at = part_in goal.Guard context live λ x.
+    part_in (goal.Braced at) context live λ b.
+    part_in (goal.Branch at) context live λ e.
+    give (if_statement x b e at)
 
 -- after `else` another `if`, one level deeper, or a block; or nothing
 abbrev pub branch : Context → Live → Position → Production node.Block
-branch context live at = if_next (is_due due_token.Else) (this (λ _ p. if_next (is_due due_token.If) (this (λ m pos.
-    raise context at (λ deeper. part (goal.In (goal.Conditional pos) deeper live) (λ f. give (made_block f)))))
-    (part (goal.In (goal.Braced at) context live) give))) (give no_block)
+branch context live at = optional due_token.Else
+    (λ _. optional due_token.If
+        (λ pos. raise context at λ deeper. part_in (goal.Conditional pos) deeper live λ f. give (made_block f))
+        (part_in (goal.Braced at) context live give))
+    (give no_block)
 
 -- `catch`, and its variable in parentheses, if it has one
 abbrev pub catch_name : Production (Option (Text × Position))
-catch_name = due due_token.Catch (if_next (is_due due_token.LeftParen) (this (λ _ p. name (λ n at.
-    due due_token.RightParen (give (Some (n, at)))))) (give None))
+catch_name = due due_token.Catch ▸ optional due_token.LeftParen
+    (λ _. name λ n at. due due_token.RightParen ▸ give (Some (n, at))) (give None)
 
 -- `while`, or `until`, whose guard is negated
 abbrev pub do_end_by : Option Bool → Production Bool
-do_end_by None = never (λ token. missing (codes "while") token)
-do_end_by (Some negated) = this (λ _ at. give negated)
+do_end_by None = never λ token. missing (codes "while") token
+do_end_by (Some negated) = any λ _ at. give negated
 
 -- the variable of `for`, or two in parentheses with different names, and `in`
 abbrev pub loop_names : Production (Text × Option Text)
-loop_names = if_next (is_due due_token.LeftParen) (this (λ _ at. name (λ n p. due due_token.Comma (name (λ m pos.
-    unless (same_text n m) (refusal (cause.DuplicatedVariable m) pos) (due due_token.RightParen (due due_token.In
-    (give (n, Some m))))))))) (name (λ n at. due due_token.In (give (n, None))))
+loop_names = optional due_token.LeftParen
+    (λ _. name λ n p. due due_token.Comma ▸ name λ m pos.
+        unless (same_text n m) (refusal (cause.DuplicatedVariable m) pos)
+        ▸ due due_token.RightParen ▸ due due_token.In ▸ give (n, Some m))
+    (name λ n at. due due_token.In ▸ give (n, None))
 
 -- a construct after its first token, by its kind
 --     block_like = block | if | switch | while | loop | for | try
@@ -99,19 +106,24 @@ loop_names = if_next (is_due due_token.LeftParen) (this (λ _ at. name (λ n p. 
 --     try = "try" block "catch" [ "(" NAME ")" ] block
 --     switch = "switch" expression "{" { arm [ "," ] } [ "_" "=>" action [ "," ] ] "}"
 abbrev pub construct : Context → Live → Position → Kind → Production node.Statement
-construct context live at kind.Block = part (goal.In (goal.Block at) context live) (λ b. give (block_statement b))
-construct context live at kind.If = part (goal.In (goal.Conditional at) context live) give
-construct context live at kind.Switch = part (goal.In goal.Expression context live) (λ x.
-    due due_token.LeftBrace (part (goal.In (goal.Arms nothing_collected) context live) (λ all. give (switch_tree x all at))))
-construct context live at kind.While = part (goal.In goal.Guard context live) (λ x.
-    part (goal.In (goal.Braced at) (loop_body context) live) (λ b. give (while_statement x b at)))
-construct context live at kind.Loop = part (goal.In (goal.Braced at) (loop_body context) live) (λ b.
-    give (while_statement (unit nowhere) b at))
-construct context live at kind.Do = part (goal.In (goal.Braced at) (loop_body context) live) (λ b. part goal.DoEnd (λ negated.
-    part (goal.In goal.Guard context live) (λ x. give (do_statement x b negated at))))
-construct context live at kind.For = part goal.LoopNames (λ names. part (goal.In goal.Iterated context live) (λ x.
-    part (goal.In (goal.Braced at) (loop_body context) (loop_live names.0 names.1 live)) (λ b.
-    give (for_statement names.0 names.1 x b at))))
-construct context live at kind.Try = part (goal.In (goal.Braced at) context live) (λ b. part goal.Catch (λ name.
-    part (goal.In (goal.Braced at) context (catch_live (caught_name name) live)) (λ handler.
-    give (try_catch b (catch_node name) handler at))))
+construct context live at kind.Block = part_in (goal.Block at) context live λ b. give (block_statement b)
+construct context live at kind.If = part_in (goal.Conditional at) context live give
+construct context live at kind.Switch = part_in goal.Expression context live λ x. due due_token.LeftBrace
+    ▸ part_in (goal.Arms nothing_collected) context live λ all. give (switch_tree x all at)
+construct context live at kind.While = part_in goal.Guard context live λ x.
+    part_in (goal.Braced at) (loop_body context) live λ b.
+    give (while_statement x b at)
+construct context live at kind.Loop = part_in (goal.Braced at) (loop_body context) live λ b.
+    give (while_statement (unit nowhere) b at)
+construct context live at kind.Do = part_in (goal.Braced at) (loop_body context) live λ b.
+    part goal.DoEnd λ negated.
+    part_in goal.Guard context live λ x.
+    give (do_statement x b negated at)
+construct context live at kind.For = part goal.LoopNames λ names.
+    part_in goal.Iterated context live λ x.
+    part_in (goal.Braced at) (loop_body context) (loop_live names.0 names.1 live) λ b.
+    give (for_statement names.0 names.1 x b at)
+construct context live at kind.Try = part_in (goal.Braced at) context live λ b.
+    part goal.Catch λ name.
+    part_in (goal.Braced at) context (catch_live (caught_name name) live) λ handler.
+    give (try_catch b (catch_node name) handler at)

@@ -3,7 +3,7 @@ use Rattle.rhai_grammar_reading.specs.Reading.{Goal, Val}
 use Rattle.rhai_grammar.specs.Productions.{Production, View, SeenBy, view}
 use Rattle.rhai_grammar.specs.Productions as S
 use Rattle.rhai_grammar.specs.Forms as F
-use Rattle.rhai_grammar.specs.Forms.{given, take, this, if_so, if_not, choose, here, must, checked, knows, adds, uses}
+use Rattle.rhai_grammar.specs.Forms.{given, of_kind, any, if_so, if_not, by_next, at_next, must, checked, knows, adds, uses}
 use Rattle.rhai_grammar.specs.Forms.{captures, part, literal, apart, in_text, form}
 use Rattle.rhai_grammar_laws.specs.Always.{Always}
 
@@ -12,11 +12,11 @@ module _ (Right : (g : Goal) → Val g → Type 0) where
   pub trivially : {A : Type 0} (R : A → Type 0) (p : Production A) → ((x : A) → R x) → Always Right R p
   trivially R (S.give x) h = h x
   trivially R (S.never why) h = tt
-  trivially R (S.take w m k) h = λ l at. trivially R (k l at) h
-  trivially R (S.this k) h = λ l at. trivially R (k l at) h
+  trivially R (S.of_kind w m k) h = λ l at. trivially R (k l at) h
+  trivially R (S.any k) h = λ l at. trivially R (k l at) h
   trivially R (S.if_next t p q) h = (trivially R p h, trivially R q h)
-  trivially R (S.choose v k) h = λ y. trivially R (k y) h
-  trivially R (S.here k) h = λ at. trivially R (k at) h
+  trivially R (S.by_next v k) h = λ y. trivially R (k y) h
+  trivially R (S.at_next k) h = λ at. trivially R (k at) h
   trivially R (S.must b e p) h = trivially R p h
   trivially R (S.checked e p) h = trivially R p h
   trivially R (S.knows t e p) h = trivially R p h
@@ -36,12 +36,12 @@ module _ (Right : (g : Goal) → Val g → Type 0) where
       always_in : {h : Goal} {p : Production (Val h)} {x : Val h} → F.Filled rule h p x → Always Right (Right h) p
           → Right h x
       always_in given r = r
-      always_in (take l at f) r = always_in f (r l at)
-      always_in (this l at f) r = always_in f (r l at)
+      always_in (of_kind l at f) r = always_in f (r l at)
+      always_in (any l at f) r = always_in f (r l at)
       always_in (if_so f) r = always_in f r.0
       always_in (if_not f) r = always_in f r.1
-      always_in (choose {v = v} l at f) r = always_in f (r (view v l))
-      always_in (here l at f) r = always_in f (r at)
+      always_in (by_next {v = v} l at f) r = always_in f (r (view v l))
+      always_in (at_next l at f) r = always_in f (r at)
       always_in (must f) r = always_in f r
       always_in (checked f) r = always_in f r
       always_in (knows f) r = always_in f r

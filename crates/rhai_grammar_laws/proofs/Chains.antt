@@ -20,11 +20,11 @@ use Rattle.rhai_grammar_laws.proofs.ChainsOfTokens.{chain_tokens, ungrouped_toke
 -- an index is not written as a member is
 apart : {c d : Context} {w v : Live} {i : Option Node} {x y : Node} (f : F.Form production (R.In (R.Index i) c w) x)
     (e : F.Form production (R.In R.Member d v) y) → Alike production f e → ⊥
-apart (F.form (F.part x f rest)) (F.form (F.this l at e)) same = same
+apart (F.form (F.part x f rest)) (F.form (F.any l at e)) same = same
 
 apart_too : {c d : Context} {w v : Live} {i : Option Node} {x y : Node} (f : F.Form production (R.In R.Member d v) y)
     (e : F.Form production (R.In (R.Index i) c w) x) → Alike production f e → ⊥
-apart_too (F.form (F.this l at f)) (F.form (F.part x e rest)) same = same
+apart_too (F.form (F.any l at f)) (F.form (F.part x e rest)) same = same
 
 -- links that are written alike are equal up to positions
 links_so : (c : Context) (w : Live) (ps qs : List Piece) (ls ms : List Link) → Made c w ps ls → Made c w qs ms

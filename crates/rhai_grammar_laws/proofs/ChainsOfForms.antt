@@ -73,18 +73,18 @@ dot_adds k on c n m w i before ls l at (NoMember why) f le = elim f [ ]
 link_adds : (k : ℕ) → AddsTo k → (c : Context) (n m : ℕ) (w : Live) (i : Option Node) (before ls : List Link)
     (v : Linking) (f : F.Filled production (R.Links w (spot c n m i before)) (P.links_by w (spot c n m i before) v) ls)
     → height_in production f ≤ k → Adds c w before (pieces_in f) ls
-link_adds k on c n m w i before ls lk.Bracket (F.this l at (F.must (F.must (F.part x fx (F.part ms fm F.given))))) le =
+link_adds k on c n m w i before ls lk.Bracket (F.any l at (F.must (F.must (F.part x fx (F.part ms fm F.given))))) le =
     first_added c w before ls (bracket_link l at x) (pieces fm) _
     (on c n (one_more m) w None (before ++ bracket_link l at x ∷ []) ls fm (omega (arith, le)))
     (λ more made. bracket (one_more (one_more m)) l at i x fx _ more (subst (λ ps. Made c w ps more)
     (sym (append-nil (pieces fm))) made))
-link_adds k on c n m w i before ls lk.Dot (F.this l at (F.choose o pos f)) le =
+link_adds k on c n m w i before ls lk.Dot (F.any l at (F.by_next o pos f)) le =
     dot_adds k on c n m w i before ls l at (member_role o) f le
 link_adds k on c n m w i before ls lk.Nothing (F.checked F.given) le = ([], sym (append-nil before), none)
 
 links_add : (k : ℕ) → AddsTo k
 links_add zero c n m w i before ls (F.form f) le = absurd (omega (arith, le))
-links_add (suc k) c n m w i before ls (F.form (F.choose l at f)) le =
+links_add (suc k) c n m w i before ls (F.form (F.by_next l at f)) le =
     link_adds k (links_add k) c n m w i before ls (linking l) f (omega (arith, le))
 
 -- ---- written chains
@@ -121,7 +121,7 @@ chain_by_is _ c n w a (F.part p fp (F.part y fy (F.part ls fl (F.checked F.given
 
 pub chain_is : (c : Context) (n : ℕ) (w : Live) (a : Node) (f : F.Form production (R.In R.Operand (at_level n c) w) a)
     (x : WrittenChain) → chain_in f ≡ Some x → IsOf c w a x
-chain_is c n w a (F.form (F.choose l at f)) x h = chain_by_is (beginning l) c n w a f x h
+chain_is c n w a (F.form (F.by_next l at f)) x h = chain_by_is (beginning l) c n w a f x h
 
 -- an operand that no operator follows is the whole
 pub not_operated : {c : Context} {w : Live} {at : Position} {parent : ℕ} {lhs a : Node}
@@ -139,20 +139,20 @@ not_called (F.form (F.if_so f)) o x h = absurd cc
 
 alone_is : (c : Context) (n : ℕ) (w : Live) (a : Node) (f : F.Form production (R.In R.Expression (at_level n c) w) a)
     (x : WrittenChain) → chain_alone f ≡ Some x → IsOf c w a x
-alone_is c n w a (F.form (F.here l at (F.must (F.part y fy (F.part z fz F.given))))) x h =
+alone_is c n w a (F.form (F.at_next l at (F.must (F.part y fy (F.part z fz F.given))))) x h =
     let r = not_operated fz (chain_in fy) x h in
     subst (λ b. IsOf c w b x) (sym r.1) (chain_is c (one_more n) w y fy x r.0)
 
 group_by_is : (v : Beginning) (c : Context) (n : ℕ) (w : Live) (a : Node)
     (f : F.Filled production (R.In R.Primary (at_level n c) w) (P.primary_by (at_level n c) w v) a) (x : WrittenChain)
     → group_by v f ≡ Some x → IsOf c w a x
-group_by_is begin.Group c n w a (F.this l at (F.must (F.part z fz (F.take m p F.given)))) x h =
+group_by_is begin.Group c n w a (F.any l at (F.must (F.part z fz (F.of_kind m p F.given)))) x h =
     alone_is c (one_more n) w a fz x h
 group_by_is _ c n w a f x h = absurd cc
 
 group_is : (c : Context) (n : ℕ) (w : Live) (a : Node) (f : F.Form production (R.In R.Primary (at_level n c) w) a)
     (x : WrittenChain) → group_in f ≡ Some x → IsOf c w a x
-group_is c n w a (F.form (F.choose l at f)) x h = group_by_is (beginning l) c n w a f x h
+group_is c n w a (F.form (F.by_next l at f)) x h = group_by_is (beginning l) c n w a f x h
 
 -- a chain with more links
 abbrev pub added : WrittenChain → List Link → List Piece → WrittenChain
@@ -193,4 +193,4 @@ ungrouped_by_is _ c n w a (F.part p fp (F.part y fy (F.part ls fl (F.checked F.g
 
 pub ungrouped_is : (c : Context) (n : ℕ) (w : Live) (a : Node) (f : F.Form production (R.In R.Operand (at_level n c) w) a)
     (x : WrittenChain) → ungrouped f ≡ Some x → IsOf c w a x
-ungrouped_is c n w a (F.form (F.choose l at f)) x h = ungrouped_by_is (beginning l) c n w a f x h
+ungrouped_is c n w a (F.form (F.by_next l at f)) x h = ungrouped_by_is (beginning l) c n w a f x h

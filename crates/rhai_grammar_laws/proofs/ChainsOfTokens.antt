@@ -36,7 +36,7 @@ chain_by_tokens _ (F.part p fp (F.part y fy (F.part ls fl (F.checked F.given))))
 
 pub chain_tokens : {c : Context} {w : Live} {a : Node} (f : F.Form production (R.In R.Operand c w) a) (x : WrittenChain)
     → chain_in f ≡ Some x → lexemes (spelling production f) ≡ of_pieces x.written
-chain_tokens (F.form (F.choose l at f)) x h = chain_by_tokens (beginning l) f x h
+chain_tokens (F.form (F.by_next l at f)) x h = chain_by_tokens (beginning l) f x h
 
 -- what stands after an operand is looked at, and not taken
 looked_at : (fo : Follower) {filter : ExprFilter} {v : Option (ℕ × Bool)}
@@ -47,7 +47,7 @@ looked_at Other F.given = refl
 
 next_tokens : {filter : ExprFilter} {v : Option (ℕ × Bool)} (f : F.Form production (R.NextOperator filter) v)
     → spelling production f ≡ []
-next_tokens {filter = filter} (F.form (F.choose l at f)) = looked_at (follower_of filter l) f
+next_tokens {filter = filter} (F.form (F.by_next l at f)) = looked_at (follower_of filter l) f
 
 -- where no operator follows, no token is taken
 no_run_tokens : {c : Context} {w : Live} {at : Position} {parent : ℕ} {lhs a : Node}
@@ -65,7 +65,7 @@ no_call_tokens (F.form (F.if_so f)) o x h = absurd cc
 
 alone_tokens : {c : Context} {w : Live} {a : Node} (f : F.Form production (R.In R.Expression c w) a) (x : WrittenChain)
     → chain_alone f ≡ Some x → lexemes (spelling production f) ≡ of_pieces x.written
-alone_tokens (F.form (F.here l at (F.must (F.part y fy (F.part z fz F.given))))) x h =
+alone_tokens (F.form (F.at_next l at (F.must (F.part y fy (F.part z fz F.given))))) x h =
     ap (λ z. lexemes (spelling production fy ++ (z ++ []))) (no_run_tokens fz (chain_in fy) x h)
     ∙ ap lexemes (append-nil (spelling production fy)) ∙ chain_tokens fy x (not_operated fz (chain_in fy) x h).0
 
@@ -78,7 +78,7 @@ record InTwo (of_chain all : List Lexeme) : Type 0 where
 group_by_tokens : (v : Beginning) {c : Context} {w : Live} {a : Node}
     (f : F.Filled production (R.In R.Primary c w) (P.primary_by c w v) a) (x : WrittenChain) → group_by v f ≡ Some x
     → InTwo (of_pieces x.written) (lexemes (spelling_in production f))
-group_by_tokens begin.Group (F.this l at (F.must (F.part z fz (F.take m p F.given)))) x h = record {
+group_by_tokens begin.Group (F.any l at (F.must (F.part z fz (F.of_kind m p F.given)))) x h = record {
   opening = l;
   closing = m;
   all_is = ap (λ ls. l ∷ ls) (lexemes_append (spelling production fz) _
@@ -88,7 +88,7 @@ group_by_tokens _ f x h = absurd cc
 
 group_tokens : {c : Context} {w : Live} {a : Node} (f : F.Form production (R.In R.Primary c w) a) (x : WrittenChain)
     → group_in f ≡ Some x → InTwo (of_pieces x.written) (lexemes (spelling production f))
-group_tokens (F.form (F.choose l at f)) x h = group_by_tokens (beginning l) f x h
+group_tokens (F.form (F.by_next l at f)) x h = group_by_tokens (beginning l) f x h
 
 -- a group, nothing that calls it, and links
 grouped_tokens : (a b c : List Taken) (xs more : List Lexeme) → b ≡ [] → lexemes c ≡ more → (g : InTwo xs (lexemes a))
@@ -117,4 +117,4 @@ ungrouped_by_tokens _ (F.part p fp (F.part y fy (F.part ls fl (F.checked F.given
 
 pub ungrouped_tokens : {c : Context} {w : Live} {a : Node} (f : F.Form production (R.In R.Operand c w) a) (x : WrittenChain)
     → ungrouped f ≡ Some x → HasTwoMore (of_pieces x.written) (lexemes (spelling production f))
-ungrouped_tokens (F.form (F.choose l at f)) x h = ungrouped_by_tokens (beginning l) f x h
+ungrouped_tokens (F.form (F.by_next l at f)) x h = ungrouped_by_tokens (beginning l) f x h

@@ -13,7 +13,7 @@ use Rattle.rhai_grammar.specs.Productions.{Production, View, SeenBy, view}
 use Rattle.rhai_grammar.specs.Productions as S
 use Rattle.rhai_grammar.specs.Rules.{production}
 use Rattle.rhai_grammar.specs.Forms as F
-use Rattle.rhai_grammar.specs.Forms.{given, take, this, if_so, if_not, choose, here, must, checked, knows, adds, uses}
+use Rattle.rhai_grammar.specs.Forms.{given, of_kind, any, if_so, if_not, by_next, at_next, must, checked, knows, adds, uses}
 use Rattle.rhai_grammar.specs.Forms.{captures, part, literal, in_text, form, any_token}
 
 pub or_other : (b : Bool) → (if b then Fine else Otherwise) ≡ Fine → b ≡ true
@@ -65,7 +65,7 @@ mutual
   filled (given {x = x}) k s t b m =
       let r : (b : Bool) → Reaches (λ z. max 0 z) (Ret x) s b x k t = λ b. R.enough (λ z. omega arith) (R.ret m) in
       record { new = r b; seen = λ n. r true }
-  filled (take {w = w} {m = c} {k = q} {r = Some x} l at f) k s t b m =
+  filled (of_kind {w = w} {m = c} {k = q} {r = Some x} l at f) k s t b m =
       let may = no_other (is_memory (op_at s)) m.0 in
       let r = R.if_true {c = w (op_at s)} (Fail (refusal (c (op_at s)) (pos_at s)))
       (or_wrong (w (op_at s)) (c (op_at s)) may.1) (takes _ may.0 (
@@ -73,7 +73,7 @@ mutual
       (past code s) false x k t) (sym m.1.0)
       (filled f k (past code s) t false m.1.1).new)) in
       record { new = looks _ may.0 r; seen = λ n. r }
-  filled (this {k = q} {r = Some x} l at f) k s t b m =
+  filled (any {k = q} {r = Some x} l at f) k s t b m =
       let may = no_other (is_memory (op_at s)) m.0 in
       let r = takes _ may.0 (subst (λ (i : Item). Reaches (λ z. max (F.depth_in production f) z) (run (q i.lexeme i.at))
       (past code s) false x k t) (sym m.1.0)
@@ -88,13 +88,13 @@ mutual
       let may = no_other (is_memory (op_at s)) m.0 in
       let r = R.if_false _ (no_other (test (op_at s)) {v = Fine} may.1).0 ((filled f k s t true m.1).seen may.0) in
       record { new = looks _ may.0 r; seen = λ n. r }
-  filled (choose {v = v} {k = q} {r = Some x} l at f) k s t b m =
+  filled (by_next {v = v} {k = q} {r = Some x} l at f) k s t b m =
       let may = no_other (is_memory (op_at s)) m.0 in
       let r = subst (λ (i : Item). Reaches (λ z. max (F.depth_in production f) z) (run_from (q (view v i.lexeme))
       (Some (op_at s, pos_at s))) s true x k t) (sym m.1.0)
       ((filled f k s t true m.1.1).seen may.0) in
       record { new = looks _ may.0 r; seen = λ n. r }
-  filled (here {k = q} {r = Some x} l at f) k s t b m =
+  filled (at_next {k = q} {r = Some x} l at f) k s t b m =
       let may = no_other (is_memory (op_at s)) m.0 in
       let r = subst (λ (i : Item).
       Reaches (λ z. max (F.depth_in production f) z) (run_from (q i.at) (Some (op_at s, pos_at s))) s true x k t)

@@ -11,7 +11,7 @@ use Rattle.rhai_grammar_reading.specs.Reading.{Goal, Val}
 use Rattle.rhai_grammar.specs.Productions.{Production}
 use Rattle.rhai_grammar.specs.Rules.{production}
 use Rattle.rhai_grammar.specs.Forms as F
-use Rattle.rhai_grammar.specs.Forms.{given, take, this, if_so, if_not, choose, here, must, checked, knows, adds, uses}
+use Rattle.rhai_grammar.specs.Forms.{given, of_kind, any, if_so, if_not, by_next, at_next, must, checked, knows, adds, uses}
 use Rattle.rhai_grammar.specs.Forms.{captures, part, literal, apart, in_text, form}
 use Rattle.rhai_grammar.specs.Promises.{written}
 use Rattle.rhai_grammar_laws.specs.StreamLaws.{FormsAreFair}
@@ -37,12 +37,12 @@ module _ (rule : (g : Goal) → Production (Val g)) where
     fair_in : {h : Goal} {p : Production (Val h)} {x : Val h} (f : F.Filled rule h p x) (k : Demands) → IsFair k
         → IsFair (F.demanded rule f k)
     fair_in given k h = h
-    fair_in (take l at f) k h = (open_to l, fair_in f k h)
-    fair_in (this l at f) k h = (open_to l, fair_in f k h)
+    fair_in (of_kind l at f) k h = (open_to l, fair_in f k h)
+    fair_in (any l at f) k h = (open_to l, fair_in f k h)
     fair_in (if_so f) k h = fair_in f k h
     fair_in (if_not f) k h = fair_in f k h
-    fair_in (choose l at f) k h = (open_to l, fair_in f k h)
-    fair_in (here l at f) k h = (open_to l, fair_in f k h)
+    fair_in (by_next l at f) k h = (open_to l, fair_in f k h)
+    fair_in (at_next l at f) k h = (open_to l, fair_in f k h)
     fair_in (must f) k h = fair_in f k h
     fair_in (checked f) k h = fair_in f k h
     fair_in (knows f) k h = fair_in f k h

@@ -43,24 +43,24 @@ given = record { filled = D.given; met = λ k t m. m }
 module _ {h : Goal} {x : Val h} {s u : Point} where
   module _ {l : Lexeme} {at : Position} (n : Comes l at s) where
     pub takes : {w : Lexeme → Bool} {m : Lexeme → Cause} {k : Lexeme → Position → Production (Val h)} → w l ≡ true
-        → FitIn h (k l at) x (past code s) u → FitIn h (S.take w m k) x s u
+        → FitIn h (k l at) x (past code s) u → FitIn h (S.of_kind w m k) x s u
     takes {w = w} {m = m} e r = record {
-      filled = D.take l at r.filled;
+      filled = D.of_kind l at r.filled;
       met = λ k t q.
           (goes (D.wanted_or w m) n (ap (λ b. if b then Fine else Wrong (m l)) e), (n.is, r.met k t q));
     }
 
     pub this : {k : Lexeme → Position → Production (Val h)} → FitIn h (k l at) x (past code s) u
-        → FitIn h (S.this k) x s u
+        → FitIn h (S.any k) x s u
     this r = record {
-      filled = D.this l at r.filled;
+      filled = D.any l at r.filled;
       met = λ k t q. (goes D.any_token n refl, (n.is, r.met k t q));
     }
 
     pub chooses : {v : View} {k : SeenBy v → Production (Val h)} → FitIn h (k (view v l)) x s u
-        → FitIn h (S.choose v k) x s u
+        → FitIn h (S.by_next v k) x s u
     chooses r = record {
-      filled = D.choose l at r.filled;
+      filled = D.by_next l at r.filled;
       met = λ k t q. (goes D.any_token n refl, (n.is, r.met k t q));
     }
 
@@ -90,9 +90,9 @@ module _ {h : Goal} {x : Val h} {s u : Point} where
       );
     }
 
-    pub looks : {k : Position → Production (Val h)} → FitIn h (k at) x s u → FitIn h (S.here k) x s u
+    pub looks : {k : Position → Production (Val h)} → FitIn h (k at) x s u → FitIn h (S.at_next k) x s u
     looks r = record {
-      filled = D.here l at r.filled;
+      filled = D.at_next l at r.filled;
       met = λ k t q. (goes D.any_token n refl, (n.is, r.met k t q));
     }
 

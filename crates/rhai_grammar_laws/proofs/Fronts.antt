@@ -3,7 +3,7 @@ use Rattle.rhai_grammar.specs.Prelude.{Demands, Met, Point, past, next_at, addin
 use Rattle.rhai_grammar_reading.specs.Reading.{Goal, Val}
 use Rattle.rhai_grammar.specs.Productions.{Production}
 use Rattle.rhai_grammar.specs.Forms as F
-use Rattle.rhai_grammar.specs.Forms.{given, take, this, if_so, if_not, choose, here, must, checked, knows, adds, uses}
+use Rattle.rhai_grammar.specs.Forms.{given, of_kind, any, if_so, if_not, by_next, at_next, must, checked, knows, adds, uses}
 use Rattle.rhai_grammar.specs.Forms.{captures, part, literal, apart, in_text, form}
 
 pub record Front (D : Demands → Demands) (j : Demands) (s t : Point) : Type 0 where
@@ -24,12 +24,12 @@ module _ (rule : (g : Goal) → Production (Val g)) where
     fronted : {h : Goal} {p : Production (Val h)} {x : Val h} (f : F.Filled rule h p x) (j : Demands) (s t : Point)
         → Met (F.demanded rule f j) s t → Front (F.demanded rule f) j s t
     fronted given j s t m = record { end = s; met = m; passes = λ k u n. n }
-    fronted (take l at f) j s t m = stays (fronted f j (past code s) t m.1.1) (λ k u n. (m.0, (m.1.0, n)))
-    fronted (this l at f) j s t m = stays (fronted f j (past code s) t m.1.1) (λ k u n. (m.0, (m.1.0, n)))
+    fronted (of_kind l at f) j s t m = stays (fronted f j (past code s) t m.1.1) (λ k u n. (m.0, (m.1.0, n)))
+    fronted (any l at f) j s t m = stays (fronted f j (past code s) t m.1.1) (λ k u n. (m.0, (m.1.0, n)))
     fronted (if_so f) j s t m = stays (fronted f j s t m.1) (λ k u n. (m.0, n))
     fronted (if_not f) j s t m = stays (fronted f j s t m.1) (λ k u n. (m.0, n))
-    fronted (choose l at f) j s t m = stays (fronted f j s t m.1.1) (λ k u n. (m.0, (m.1.0, n)))
-    fronted (here l at f) j s t m = stays (fronted f j s t m.1.1) (λ k u n. (m.0, (m.1.0, n)))
+    fronted (by_next l at f) j s t m = stays (fronted f j s t m.1.1) (λ k u n. (m.0, (m.1.0, n)))
+    fronted (at_next l at f) j s t m = stays (fronted f j s t m.1.1) (λ k u n. (m.0, (m.1.0, n)))
     fronted (must f) j s t m = stays (fronted f j s t m.1) (λ k u n. (m.0, n))
     fronted (checked f) j s t m = stays (fronted f j s t m.1) (λ k u n. (m.0, n))
     fronted (knows f) j s t m = stays (fronted f j s t m.1) (λ k u n. (m.0, n))

@@ -8,7 +8,7 @@ use Rattle.rhai_grammar_reading.proofs.Looks.{op_at, fine, no_other, or_wrong}
 use Rattle.rhai_grammar.specs.Productions.{Production, view}
 use Rattle.rhai_grammar.specs.Productions as S
 use Rattle.rhai_grammar.specs.Forms as F
-use Rattle.rhai_grammar.specs.Forms.{given, take, this, if_so, if_not, choose, here, must, checked, knows, adds, uses}
+use Rattle.rhai_grammar.specs.Forms.{given, of_kind, any, if_so, if_not, by_next, at_next, must, checked, knows, adds, uses}
 use Rattle.rhai_grammar.specs.Forms.{captures, part, literal, apart, in_text, form}
 use Rattle.rhai_grammar_laws.specs.Kept.{Keeps}
 use Rattle.rhai_grammar_laws.proofs.Complete.{or_other}
@@ -36,7 +36,7 @@ module _ (rule : (g : Goal) → Production (Val g)) (Right : (g : Goal) → Val 
         (s t : Point) → Met (F.demanded rule f k) s t → Keeps Right Good (λ y next. Right h y a next) p (op_at s)
         → KeptForm (λ next. Right h x a next) k s t
     keeps given b k s t m h = record { end = s; met = m; right = h; all = λ a. a }
-    keeps (take {h = j} {w = w} {m = c} {k = q} {r = Some x} l at f) b k s t m h =
+    keeps (of_kind {h = j} {w = w} {m = c} {k = q} {r = Some x} l at f) b k s t m h =
         let u = past code s in
         let is = or_wrong (w (op_at s)) (c (op_at s)) (fine (F.wanted_or w c) (op_at s) m.0).1 in
         let on : Keeps Right Good (λ y next. Right j y b next) (q l at) (op_at u) =
@@ -44,7 +44,7 @@ module _ (rule : (g : Goal) → Production (Val g)) (Right : (g : Goal) → Val 
         (h is (next_at code s).at (op_at u)) in
         let r = keeps f b k u t m.1.1 on in
         record { end = r.end; met = r.met; right = r.right; all = r.all }
-    keeps (this {h = j} {k = q} {r = Some x} l at f) b k s t m h =
+    keeps (any {h = j} {k = q} {r = Some x} l at f) b k s t m h =
         let u = past code s in
         let on : Keeps Right Good (λ y next. Right j y b next) (q l at) (op_at u) =
         subst (λ (i : Item). Keeps Right Good (λ y next. Right j y b next) (q i.lexeme i.at) (op_at u)) m.1.0
@@ -55,9 +55,9 @@ module _ (rule : (g : Goal) → Production (Val g)) (Right : (g : Goal) → Val 
         keeps f b k s t m.1 (h.0 (or_other (test (op_at s)) (fine (F.only_if test) (op_at s) m.0).1))
     keeps (if_not {t = test} f) b k s t m h =
         keeps f b k s t m.1 (h.1 (no_other (test (op_at s)) {v = Fine} (fine (F.only_if_not test) (op_at s) m.0).1).0)
-    keeps (choose {v = v} l at f) b k s t m h =
+    keeps (by_next {v = v} l at f) b k s t m h =
         keeps f b k s t m.1.1 (h (view v l) (ap (λ (i : Item). view v i.lexeme) m.1.0))
-    keeps (here l at f) b k s t m h = keeps f b k s t m.1.1 (h at)
+    keeps (at_next l at f) b k s t m h = keeps f b k s t m.1.1 (h at)
     keeps (must f) b k s t m h = keeps f b k s t m.1 (h m.0)
     keeps (checked f) b k s t m h = keeps f b k s t m.1 (h m.0)
     keeps (knows f) b k s t m h = keeps f b k s t m.1 h
@@ -97,11 +97,11 @@ module _ (Right : (g : Goal) → Val g → (first next : Lexeme) → Type 0) whe
       → Keeps Right (λ x. Unit {0}) Q p n
   trivially Q (S.give x) n h = h x n
   trivially Q (S.never why) n h = tt
-  trivially Q (S.take w m k) n h = λ is at next. trivially Q (k n at) next h
-  trivially Q (S.this k) n h = λ at next. trivially Q (k n at) next h
+  trivially Q (S.of_kind w m k) n h = λ is at next. trivially Q (k n at) next h
+  trivially Q (S.any k) n h = λ at next. trivially Q (k n at) next h
   trivially Q (S.if_next t p q) n h = (λ e. trivially Q p n h, λ e. trivially Q q n h)
-  trivially Q (S.choose v k) n h = λ y e. trivially Q (k y) n h
-  trivially Q (S.here k) n h = λ at. trivially Q (k at) n h
+  trivially Q (S.by_next v k) n h = λ y e. trivially Q (k y) n h
+  trivially Q (S.at_next k) n h = λ at. trivially Q (k at) n h
   trivially Q (S.must b e p) n h = λ is. trivially Q p n h
   trivially Q (S.checked e p) n h = λ is. trivially Q p n h
   trivially Q (S.knows t e p) n h = trivially Q p n h

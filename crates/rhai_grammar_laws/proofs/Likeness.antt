@@ -5,7 +5,7 @@ use Rattle.rhai_grammar_reading.specs.Reading.{Goal, Val}
 use Rattle.rhai_grammar.specs.Productions as S
 use Rattle.rhai_grammar.specs.Productions.{Production, View, view, name, stop}
 use Rattle.rhai_grammar.specs.Forms as F
-use Rattle.rhai_grammar.specs.Forms.{given, take, this, if_so, if_not, choose, here, must, checked, knows, adds, uses}
+use Rattle.rhai_grammar.specs.Forms.{given, of_kind, any, if_so, if_not, by_next, at_next, must, checked, knows, adds, uses}
 use Rattle.rhai_grammar.specs.Forms.{captures, part, literal, apart, in_text, form}
 use Rattle.rhai_grammar_laws.specs.Shaped as Z
 
@@ -13,11 +13,11 @@ module _ (Near : Goal → Goal → Type 0) (Equal : (g h : Goal) → Near g h �
   abbrev pub Like : {A B : Type 0} → (A → B → Type 0) → Production A → Production B → Type 0
   Like Q (S.give x) (S.give y) = Q x y
   Like Q (S.never why) (S.never other) = Unit {0}
-  Like Q (S.take w m k) (S.take v n j) = (l : Lexeme) (at pos : Position) → Like Q (k l at) (j l pos)
-  Like Q (S.this k) (S.this j) = (l : Lexeme) (at pos : Position) → Like Q (k l at) (j l pos)
+  Like Q (S.of_kind w m k) (S.of_kind v n j) = (l : Lexeme) (at pos : Position) → Like Q (k l at) (j l pos)
+  Like Q (S.any k) (S.any j) = (l : Lexeme) (at pos : Position) → Like Q (k l at) (j l pos)
   Like Q (S.if_next t p q) (S.if_next u r s) = Like Q p r × Like Q q s
-  Like Q (S.choose v k) (S.choose w j) = (l : Lexeme) → Like Q (k (view v l)) (j (view w l))
-  Like Q (S.here k) (S.here j) = (at pos : Position) → Like Q (k at) (j pos)
+  Like Q (S.by_next v k) (S.by_next w j) = (l : Lexeme) → Like Q (k (view v l)) (j (view w l))
+  Like Q (S.at_next k) (S.at_next j) = (at pos : Position) → Like Q (k at) (j pos)
   Like Q (S.must b e p) (S.must c d q) = Like Q p q
   Like Q (S.checked e p) (S.checked d q) = Like Q p q
   Like Q (S.knows t e p) (S.knows u d q) = Like Q p q
@@ -44,18 +44,18 @@ module _ (Near : Goal → Goal → Type 0) (Equal : (g h : Goal) → Near g h �
           (q : Production (Val h)) (y : Val h) (e : F.Filled rule h q y) (a : Near g h) → Like (Equal g h a) p q
           → Z.AlikeIn rule f e → Equal g h a x y
       kept given h q y given a r same = r
-      kept (take {h = g} {k = i} l at f) h q y (take {k = j} m pos e) a r same =
+      kept (of_kind {h = g} {k = i} l at f) h q y (of_kind {k = j} m pos e) a r same =
           kept f h (j m pos) y e a (subst (λ n. Like (Equal g h a) (i l at) (j n pos)) same.0 (r l at pos)) same.1
-      kept (this {h = g} {k = i} l at f) h q y (this {k = j} m pos e) a r same =
+      kept (any {h = g} {k = i} l at f) h q y (any {k = j} m pos e) a r same =
           kept f h (j m pos) y e a (subst (λ n. Like (Equal g h a) (i l at) (j n pos)) same.0 (r l at pos)) same.1
-      kept (choose {h = g} {v = v} {k = i} l at f) h q y (choose {v = w} {k = j} m pos e) a r same =
+      kept (by_next {h = g} {v = v} {k = i} l at f) h q y (by_next {v = w} {k = j} m pos e) a r same =
           kept f h (j (view w m)) y e a
           (subst (λ n. Like (Equal g h a) (i n) (j (view w m))) (sym same.0) (r m)) same.1
       kept (uses {h = g} {v = v} {k = i} l at f) h q y (uses {v = w} {k = j} m pos e) a r same =
           kept f h (j (w m)) y e a (subst (λ n. Like (Equal g h a) (i n) (j (w m))) (sym same.0) (r m)) same.1
       kept (if_so f) h q y (if_so {p = o} e) a r same = kept f h o y e a r.0 same
       kept (if_not f) h q y (if_not {q = o} e) a r same = kept f h o y e a r.1 same
-      kept (here l at f) h q y (here {k = j} m pos e) a r same = kept f h (j pos) y e a (r at pos) same
+      kept (at_next l at f) h q y (at_next {k = j} m pos e) a r same = kept f h (j pos) y e a (r at pos) same
       kept (must f) h q y (must {p = o} e) a r same = kept f h o y e a r same
       kept (checked f) h q y (checked {p = o} e) a r same = kept f h o y e a r same
       kept (knows f) h q y (knows {p = o} e) a r same = kept f h o y e a r same

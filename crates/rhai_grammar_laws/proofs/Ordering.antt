@@ -17,7 +17,7 @@ use Rattle.rhai_grammar_reading.specs.Reading.{Goal, Val}
 use Rattle.rhai_grammar.specs.Productions.{Production, SeenBy, view}
 use Rattle.rhai_grammar.specs.Productions as S
 use Rattle.rhai_grammar.specs.Forms as F
-use Rattle.rhai_grammar.specs.Forms.{given, take, this, if_so, if_not, choose, here, must, checked, knows, adds, uses}
+use Rattle.rhai_grammar.specs.Forms.{given, of_kind, any, if_so, if_not, by_next, at_next, must, checked, knows, adds, uses}
 use Rattle.rhai_grammar.specs.Forms.{captures, part, apart, in_text, form}
 use Rattle.rhai_grammar_laws.proofs.TreesIf.{RightIf}
 
@@ -46,12 +46,12 @@ module _ (limit : ℕ) (Begun : ℕ → Goal → Type 0) (Right : (g : Goal) →
     abbrev pub Orders : {A : Type 0} → (A → Type 0) → Production A → Library → Type 0
     Orders R (S.give x) l = R x × KeptWithin limit begun l
     Orders R (S.never why) l = (n : Lexeme) → duplicates_closure (why n) ≡ false
-    Orders R (S.take w m k) l = ((n : Lexeme) → duplicates_closure (m n) ≡ false)
+    Orders R (S.of_kind w m k) l = ((n : Lexeme) → duplicates_closure (m n) ≡ false)
         × ((n : Lexeme) (at : Position) → Orders R (k n at) l)
-    Orders R (S.this k) l = (n : Lexeme) (at : Position) → Orders R (k n at) l
-    Orders R (S.choose v k) l = (y : SeenBy v) (n : Lexeme) → view v n ≡ y → Orders R (k y) l
+    Orders R (S.any k) l = (n : Lexeme) (at : Position) → Orders R (k n at) l
+    Orders R (S.by_next v k) l = (y : SeenBy v) (n : Lexeme) → view v n ≡ y → Orders R (k y) l
     Orders R (S.if_next t p q) l = Orders R p l × Orders R q l
-    Orders R (S.here k) l = (at : Position) → Orders R (k at) l
+    Orders R (S.at_next k) l = (at : Position) → Orders R (k at) l
     Orders R (S.must b e p) l = (b ≡ false → Spared e) × (b ≡ true → Orders R p l)
     Orders R (S.checked e p) l = ((why : Refusal) → e ≡ Some why → Spared why) × (e ≡ None → Orders R p l)
     Orders R (S.knows t e p) l = (t l ≡ false → Spared e) × (t l ≡ true → Orders R p l)
@@ -90,12 +90,12 @@ module _ (limit : ℕ) (Begun : ℕ → Goal → Type 0) (Right : (g : Goal) →
       ordered_in : {h : Goal} {p : Production (Val h)} {x : Val h} (f : F.Filled rule h p x) (b : ℕ) (k : Demands)
           (s t : Point) → Orders b (Right h) p s.library → Met (F.demanded rule f k) s t → Ordered (Right h x) b k t
       ordered_in given b k s t o m = record { end = s; met = m; right = o.0; kept = o.1 }
-      ordered_in (take l at f) b k s t o m = ordered_in f b k (past code s) t (o.1 l at) m.1.1
-      ordered_in (this l at f) b k s t o m = ordered_in f b k (past code s) t (o l at) m.1.1
+      ordered_in (of_kind l at f) b k s t o m = ordered_in f b k (past code s) t (o.1 l at) m.1.1
+      ordered_in (any l at f) b k s t o m = ordered_in f b k (past code s) t (o l at) m.1.1
       ordered_in (if_so f) b k s t o m = ordered_in f b k s t o.0 m.1
       ordered_in (if_not f) b k s t o m = ordered_in f b k s t o.1 m.1
-      ordered_in (choose {v = v} l at f) b k s t o m = ordered_in f b k s t (o (view v l) l refl) m.1.1
-      ordered_in (here l at f) b k s t o m = ordered_in f b k s t (o at) m.1.1
+      ordered_in (by_next {v = v} l at f) b k s t o m = ordered_in f b k s t (o (view v l) l refl) m.1.1
+      ordered_in (at_next l at f) b k s t o m = ordered_in f b k s t (o at) m.1.1
       ordered_in (must f) b k s t o m = ordered_in f b k s t (o.1 m.0) m.1
       ordered_in (checked f) b k s t o m = ordered_in f b k s t (o.1 m.0) m.1
       ordered_in (knows f) b k s t o m = ordered_in f b k s t (o.1 m.0) m.1
@@ -174,8 +174,8 @@ module _ (limit : ℕ) (Begun : ℕ → Goal → Type 0) (Right : (g : Goal) →
     undecided : (t : Lexeme → Bool) → Sparing (F.only_if_not t)
     undecided t = record { spares = λ l. either is_duplicate (t l) Otherwise Fine refl refl }
 
-    any : Sparing F.any_token
-    any = record { spares = λ l. refl }
+    no_matter : Sparing F.any_token
+    no_matter = record { spares = λ l. refl }
 
     after : Sparing anything
     after = record { spares = λ l. refl }
@@ -216,21 +216,21 @@ module _ (limit : ℕ) (Begun : ℕ → Goal → Type 0) (Right : (g : Goal) →
           → Orders b (Right h) p s.library → Missed (F.demanded rule f k) s e n t
           → Fails b k e n t (RightIf Right h r)
       fails_in given b k s e n t w o m = inr (record { from = s; missed = m; right = o.0; kept = o.1 })
-      fails_in (take {w = is} {m = miss} l at f) b k s e n t w o m =
+      fails_in (of_kind {w = is} {m = miss} l at f) b k s e n t w o m =
           token_or (next_at code s) s t e (wanted is miss o.0) w m inl (λ m.
           token_or (next_at code s) s t e after w m inl (λ m. fails_in f b k (past code s) e n t w (o.1 l at) m))
-      fails_in (this l at f) b k s e n t w o m =
-          token_or (next_at code s) s t e any w m inl (λ m.
+      fails_in (any l at f) b k s e n t w o m =
+          token_or (next_at code s) s t e no_matter w m inl (λ m.
           token_or (next_at code s) s t e after w m inl (λ m. fails_in f b k (past code s) e n t w (o l at) m))
       fails_in (if_so {t = is} f) b k s e n t w o m =
           token_or (next_at code s) s t e (decided is) w m inl (λ m. fails_in f b k s e n t w o.0 m)
       fails_in (if_not {t = is} f) b k s e n t w o m =
           token_or (next_at code s) s t e (undecided is) w m inl (λ m. fails_in f b k s e n t w o.1 m)
-      fails_in (choose {v = v} l at f) b k s e n t w o m =
-          token_or (next_at code s) s t e any w m inl (λ m.
+      fails_in (by_next {v = v} l at f) b k s e n t w o m =
+          token_or (next_at code s) s t e no_matter w m inl (λ m.
           token_or (next_at code s) s t e after w m inl (λ m. fails_in f b k s e n t w (o (view v l) l refl) m))
-      fails_in (here l at f) b k s e n t w o m =
-          token_or (next_at code s) s t e any w m inl (λ m.
+      fails_in (at_next l at f) b k s e n t w o m =
+          token_or (next_at code s) s t e no_matter w m inl (λ m.
           token_or (next_at code s) s t e after w m inl (λ m. fails_in f b k s e n t w (o at) m))
       fails_in (must {e = why} f) b k s e n t w o m =
           test_or s t e why o.0 w m inl (λ is m. fails_in f b k s e n t w (o.1 is) m)
@@ -266,7 +266,7 @@ module _ (limit : ℕ) (Begun : ℕ → Goal → Type 0) (Right : (g : Goal) →
           fails_in f b k (past text (past code s)) e n t w (o closing l at) m)))
       fails_in (F.never_here {why = why}) b k s e n t w o m =
           token_or (next_at code s) s t e (refusing why o) w m inl (λ m. absurd m)
-      fails_in (F.take_here {w = is} {m = miss}) b k s e n t w o m =
+      fails_in (F.of_kind_here {w = is} {m = miss}) b k s e n t w o m =
           token_or (next_at code s) s t e (wanted is miss o.0) w m inl (λ m. absurd m)
       fails_in (F.must_here {e = why}) b k s e n t w o m = test_or s t e why o.0 w m inl (λ is m. absurd m)
       fails_in F.checked_here b k s e n t w o m = fault_or s t e o.0 w m inl (λ is m. absurd m)

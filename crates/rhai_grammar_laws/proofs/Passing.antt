@@ -11,7 +11,7 @@ use Rattle.rhai_grammar.proofs.SeenLemmas.{both, leads_on}
 use Rattle.rhai_grammar_reading.specs.Reading.{Goal, Val}
 use Rattle.rhai_grammar.specs.Productions.{Production}
 use Rattle.rhai_grammar.specs.Forms as F
-use Rattle.rhai_grammar.specs.Forms.{given, take, this, if_so, if_not, choose, here, must, checked, knows, adds, uses}
+use Rattle.rhai_grammar.specs.Forms.{given, of_kind, any, if_so, if_not, by_next, at_next, must, checked, knows, adds, uses}
 use Rattle.rhai_grammar.specs.Forms.{captures, part, literal, apart, in_text, form}
 use Rattle.rhai_grammar.specs.Events as D
 use Rattle.rhai_grammar_laws.specs.EventLaws as law
@@ -170,12 +170,12 @@ module _ (rule : (g : Goal) → Production (Val g)) where
     pub passes_in : {h : Goal} {p : Production (Val h)} {x : Val h} (f : F.Filled rule h p x) (k : Demands)
         (s t : Point) → Met (F.demanded rule f k) s t → Passed (D.spelling_in rule f) (D.events_in rule f) k s t
     passes_in given k s t m = nothing m
-    passes_in (take l at f) k s t m = token code l at m.1.0 (passes_in f k (past code s) t m.1.1)
-    passes_in (this l at f) k s t m = token code l at m.1.0 (passes_in f k (past code s) t m.1.1)
+    passes_in (of_kind l at f) k s t m = token code l at m.1.0 (passes_in f k (past code s) t m.1.1)
+    passes_in (any l at f) k s t m = token code l at m.1.0 (passes_in f k (past code s) t m.1.1)
     passes_in (if_so f) k s t m = passes_in f k s t m.1
     passes_in (if_not f) k s t m = passes_in f k s t m.1
-    passes_in (choose l at f) k s t m = passes_in f k s t m.1.1
-    passes_in (here l at f) k s t m = passes_in f k s t m.1.1
+    passes_in (by_next l at f) k s t m = passes_in f k s t m.1.1
+    passes_in (at_next l at f) k s t m = passes_in f k s t m.1.1
     passes_in (must f) k s t m = passes_in f k s t m.1
     passes_in (checked f) k s t m = passes_in f k s t m.1
     passes_in (knows f) k s t m = passes_in f k s t m.1

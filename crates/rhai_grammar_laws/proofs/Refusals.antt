@@ -9,7 +9,7 @@ use Rattle.rhai_grammar.specs.Events.{HoldsFirst, Event, Used, HasEnded, ended_i
 use Rattle.rhai_grammar_reading.specs.Reading.{Goal, Val}
 use Rattle.rhai_grammar.specs.Productions.{Production}
 use Rattle.rhai_grammar.specs.Forms as F
-use Rattle.rhai_grammar.specs.Forms.{given, take, this, if_so, if_not, choose, here, must, checked, knows, adds, uses}
+use Rattle.rhai_grammar.specs.Forms.{given, of_kind, any, if_so, if_not, by_next, at_next, must, checked, knows, adds, uses}
 use Rattle.rhai_grammar.specs.Forms.{captures, part, literal, apart, in_text, form}
 use Rattle.rhai_grammar.specs.Events as D
 use Rattle.rhai_grammar_laws.specs.EventLaws as law
@@ -146,15 +146,15 @@ module _ (rule : (g : Goal) → Production (Val g)) where
         (s : Point) (e : Refusal) (n : Mode) (t : Point) → Missed (F.demanded rule f k) s e n t
         → Fails (D.events_in rule f) k s e n t
     fails_in given k s e n t m = inr (record { from = s; missed = m; library = refl })
-    fails_in (take l at f) k s e n t m = missed_or m (absent (D.events_in rule f)) (λ m.
+    fails_in (of_kind l at f) k s e n t m = missed_or m (absent (D.events_in rule f)) (λ m.
         missed_or m (absent (D.events_in rule f)) (λ m. moved code (fails_in f k (past code s) e n t m)))
-    fails_in (this l at f) k s e n t m = missed_or m (absent (D.events_in rule f)) (λ m.
+    fails_in (any l at f) k s e n t m = missed_or m (absent (D.events_in rule f)) (λ m.
         missed_or m (absent (D.events_in rule f)) (λ m. moved code (fails_in f k (past code s) e n t m)))
     fails_in (if_so f) k s e n t m = missed_or m (absent (D.events_in rule f)) (λ m. fails_in f k s e n t m)
     fails_in (if_not f) k s e n t m = missed_or m (absent (D.events_in rule f)) (λ m. fails_in f k s e n t m)
-    fails_in (choose l at f) k s e n t m = missed_or m (absent (D.events_in rule f)) (λ m.
+    fails_in (by_next l at f) k s e n t m = missed_or m (absent (D.events_in rule f)) (λ m.
         missed_or m (absent (D.events_in rule f)) (λ m. fails_in f k s e n t m))
-    fails_in (here l at f) k s e n t m = missed_or m (absent (D.events_in rule f)) (λ m.
+    fails_in (at_next l at f) k s e n t m = missed_or m (absent (D.events_in rule f)) (λ m.
         missed_or m (absent (D.events_in rule f)) (λ m. fails_in f k s e n t m))
     fails_in (must f) k s e n t m = test_or m (absent (D.events_in rule f)) (λ m. fails_in f k s e n t m)
     fails_in (checked f) k s e n t m = missed_or m (absent (D.events_in rule f)) (λ m. fails_in f k s e n t m)
@@ -186,7 +186,7 @@ module _ (rule : (g : Goal) → Production (Val g)) where
         missed_or m.1 (λ z. inl (holds_past_so (D.events_in rule f) s t z)) (λ m.
         moved code (moved text (fails_in f k (past text (past code s)) e n t m)))))
     fails_in F.never_here k s e n t m = missed_or m (absent []) (λ m. absurd m)
-    fails_in F.take_here k s e n t m = missed_or m (absent []) (λ m. absurd m)
+    fails_in F.of_kind_here k s e n t m = missed_or m (absent []) (λ m. absurd m)
     fails_in F.must_here k s e n t m = test_or m (absent []) (λ m. absurd m)
     fails_in F.checked_here k s e n t m = missed_or m (absent []) (λ m. absurd m)
     fails_in F.knows_here k s e n t m = test_or m (absent []) (λ m. absurd m)

@@ -16,7 +16,7 @@ use Rattle.rhai_grammar_reading.proofs.Strengths.{goes_operator}
 use Rattle.rhai_grammar_reading.proofs.Strengths.{true_not}
 use Rattle.rhai_grammar.specs.Rules as P
 use Rattle.rhai_grammar.specs.Rules.{production}
-use Rattle.rhai_grammar.specs.Forms.{Form, Filled, form, given, this, choose, here, must, part, demands, demanded}
+use Rattle.rhai_grammar.specs.Forms.{Form, Filled, form, given, any, by_next, at_next, must, part, demands, demanded}
 use Rattle.rhai_grammar.specs.Runs.{Run, just, binary, run_demands, Side, Outermost, RightOf, left_fits, side_fits}
 use Rattle.rhai_grammar.specs.Runs.{ExpressionsAreRuns}
 use Rattle.rhai_grammar_laws.proofs.Fronts.{front}
@@ -42,7 +42,7 @@ known_by Other given k s t m = (refl, refl, m)
 
 pub known : {filter : ExprFilter} {v : Option (ℕ × Bool)} (f : Form production (NextOperator filter) v) (k : Demands)
     (s t : Point) → Met (demands production f k) s t → Known filter v k s t
-known {filter = filter} {v = v} (form (choose l at f)) k s t m =
+known {filter = filter} {v = v} (form (by_next l at f)) k s t m =
     let stands : op_at s ≡ l = ap (λ (i : Item). i.lexeme) m.1.0 in
     let reads = (fine (λ l. Fine) (op_at s) m.0).0 in
     let r = known_by (follower_of filter l) f k s t m.1.1 in
@@ -171,7 +171,7 @@ climbed_by i law c w at parent lhs x o false goes given le filter same k s t is 
       passes = passes fits;
     }
 climbed_by i law c w at parent lhs x o true goes
-    (this op p (part y fy (part v fv (must (part r fr (must (must (part z fz given)))))))) le
+    (any op p (part y fy (part v fv (must (part r fr (must (must (part z fz given)))))))) le
     filter same k s t is fits m first begins side top L suits ended from passes =
     let stands : op_at s ≡ op = ap (λ (i : Item). i.lexeme) m.1.0 in
     let is_op = op_is (follower_of filter op) o (subst (λ l. Some o ≡ operator_in (follower_of filter l)) stands is) in
@@ -228,7 +228,7 @@ ends (Unknown t) off h k = absurd cc
 ends Other off h k = refl
 
 pub expressions_are_runs : ExpressionsAreRuns
-expressions_are_runs c w x (form (here l at (must (part y fy (part z fz given))))) k s t m =
+expressions_are_runs c w x (form (at_next l at (must (part y fy (part z fz given))))) k s t m =
     let reads = (fine (λ l. Fine) (op_at s) m.0).0 in
     let room : may_raise c ≡ true = m.1.1.0 in
     let a = front production fy _ s t m.1.1.1 in

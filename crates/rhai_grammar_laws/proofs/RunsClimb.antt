@@ -15,7 +15,7 @@ use Rattle.rhai_grammar_reading.proofs.Strengths.{not_true}
 use Rattle.rhai_grammar.specs.Rules as P
 use Rattle.rhai_grammar.specs.Rules.{production}
 use Rattle.rhai_grammar.specs.Productions as S
-use Rattle.rhai_grammar.specs.Forms.{Form, Filled, form, given, this, choose, here, must, part, demands, demanded}
+use Rattle.rhai_grammar.specs.Forms.{Form, Filled, form, given, any, by_next, at_next, must, part, demands, demanded}
 use Rattle.rhai_grammar.specs.Runs.{Run, just, binary, run_demands, Side, Outermost, RightOf, First, first_demands}
 use Rattle.rhai_grammar.specs.Runs.{raise_after, left_fits, side_fits, RunsAreExpressions}
 use Rattle.rhai_grammar_laws.proofs.Fronts.{front, Front}
@@ -80,7 +80,7 @@ next_form filter s e =
     let f = fine (operator_known filter) (op_at s) e in
     let r = next_by filter (follower_of filter (op_at s)) s f.1 in
     record {
-      it = form (choose (op_at s) (pos_at s) r.it);
+      it = form (by_next (op_at s) (pos_at s) r.it);
       fits = λ k t m. (judged (λ l. Fine) s f.0 refl, (refl, r.fits k t m));
     }
 
@@ -253,7 +253,7 @@ begins {filter = filter} {w = w} {side = side} (binary {c = c} {d = d} {p = p} {
           subst (λ f. verdict (operator_known f) (op_at a.end) ≡ Fine) (sym fc) a.ends in
           let whole : Filled production (In (BinaryOp p parent l) c w) (P.binary_on c w p parent l
           (strength e)) z =
-          this op at (part b.y b.operand (part (operator_in (follower_of c.filter (op_at b.rest))) next.it
+          any op at (part b.y b.operand (part (operator_in (follower_of c.filter (op_at b.rest))) next.it
           (must (part r tight.0 (
           must (must (part z g given))))))) in
           let on = on_form c w p parent l z a.end known (ap is_operator is_e ∙ n.0)
@@ -279,6 +279,6 @@ runs_are_expressions c after w at top x f k s t m =
     let g = a.climbs 1 (λ l ok fits. outer (follower_of c.filter l) (sensible c.filter l) ok)
     (shut_none f (op_at a.end) ended) x last.it k t
     (last.fits k t a.met.1) in (
-      form (here (op_at s) (pos_at s) (must (part a.y a.operand (part x g.0 given)))),
+      form (at_next (op_at s) (pos_at s) (must (part a.y a.operand (part x g.0 given)))),
       (judged (λ l. Fine) s reads refl, (refl, (room, a.front _ t g.1))),
     )

@@ -6,7 +6,7 @@ use Rattle.rhai_grammar_reading.specs.Reading as R
 use Rattle.rhai_grammar_reading.specs.Reading.{Goal, Val}
 use Rattle.rhai_grammar.specs.Productions.{Production}
 use Rattle.rhai_grammar.specs.Rules.{production}
-use Rattle.rhai_grammar.specs.Forms.{Form, Filled, given, take, this, if_so, if_not, choose, here, must, checked, knows}
+use Rattle.rhai_grammar.specs.Forms.{Form, Filled, given, of_kind, any, if_so, if_not, by_next, at_next, must, checked, knows}
 use Rattle.rhai_grammar.specs.Forms.{adds}
 use Rattle.rhai_grammar.specs.Forms.{uses, captures, part, literal, apart, in_text, form}
 use Rattle.rhai_grammar_laws.specs.Shaped.{Alike, AlikeIn, lexemes}
@@ -39,12 +39,12 @@ mutual
       (f : Filled production g p x) (e : Filled production h q y) → AlikeIn production f e
       → lexemes (spelling_in production f) ≡ lexemes (spelling_in production e)
   same_tokens_in given given same = refl
-  same_tokens_in (take l at f) (take m pos e) same = one_more_same same.0 (same_tokens_in f e same.1)
-  same_tokens_in (this l at f) (this m pos e) same = one_more_same same.0 (same_tokens_in f e same.1)
+  same_tokens_in (of_kind l at f) (of_kind m pos e) same = one_more_same same.0 (same_tokens_in f e same.1)
+  same_tokens_in (any l at f) (any m pos e) same = one_more_same same.0 (same_tokens_in f e same.1)
   same_tokens_in (if_so f) (if_so e) same = same_tokens_in f e same
   same_tokens_in (if_not f) (if_not e) same = same_tokens_in f e same
-  same_tokens_in (choose l at f) (choose m pos e) same = same_tokens_in f e same.1
-  same_tokens_in (here l at f) (here m pos e) same = same_tokens_in f e same
+  same_tokens_in (by_next l at f) (by_next m pos e) same = same_tokens_in f e same.1
+  same_tokens_in (at_next l at f) (at_next m pos e) same = same_tokens_in f e same
   same_tokens_in (must f) (must e) same = same_tokens_in f e same
   same_tokens_in (checked f) (checked e) same = same_tokens_in f e same
   same_tokens_in (knows f) (knows e) same = same_tokens_in f e same
@@ -102,12 +102,12 @@ mutual
   tokens_in : {h : Goal} {p : Production (Val h)} {x : Val h} (f : Filled production h p x)
       → lexemes (spelling_in production f) ≡ of_pieces (pieces_in f)
   tokens_in given = refl
-  tokens_in (take l at f) = one_more_same refl (tokens_in f)
-  tokens_in (this l at f) = one_more_same refl (tokens_in f)
+  tokens_in (of_kind l at f) = one_more_same refl (tokens_in f)
+  tokens_in (any l at f) = one_more_same refl (tokens_in f)
   tokens_in (if_so f) = tokens_in f
   tokens_in (if_not f) = tokens_in f
-  tokens_in (choose l at f) = tokens_in f
-  tokens_in (here l at f) = tokens_in f
+  tokens_in (by_next l at f) = tokens_in f
+  tokens_in (at_next l at f) = tokens_in f
   tokens_in (must f) = tokens_in f
   tokens_in (checked f) = tokens_in f
   tokens_in (knows f) = tokens_in f

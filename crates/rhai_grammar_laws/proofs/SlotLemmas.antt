@@ -55,7 +55,7 @@ named_there : (c : Context) (w : Live) {x : node.Node}
     → x ≡ variable_of o name at
     → ((excludes_use (next_at code t).lexeme ≡ false) × IsLatest name w.slots o)
     ⊎ ((excludes_use (next_at code t).lexeme ≡ true) × (o ≡ None))
-named_there c w (D.this k p (D.uses l q D.given)) s t m name at o h =
+named_there c w (D.any k p (D.uses l q D.given)) s t m name at o h =
     let there : (next_at code t).lexeme ≡ l =
     ap (λ (u : Point). (next_at code u).lexeme) (sym m.1.1.1.1) ∙ ap (λ (i : Item). i.lexeme) m.1.1.0 in
     named w (next_at code t).lexeme o (excludes_use l) name (text_of k) at p (ap excludes_use there) h
@@ -253,11 +253,11 @@ kept f = always KeepsRight production table f
 
 construct_leaves : {c : Context} {w : Live} {x : node.Statement × Live} (kind : Kind)
     → D.Filled production (R.In R.Statement c w) (P.statement_by c w (start.Construct kind)) x → x.1 ≡ w
-construct_leaves kind (D.this l at (D.must (D.must (D.part v f D.given)))) = refl
+construct_leaves kind (D.any l at (D.must (D.must (D.part v f D.given)))) = refl
 
 expression_leaves : {c : Context} {w : Live} {x : node.Statement × Live}
     → D.Filled production (R.In R.Statement c w) (P.statement_by c w start.Expression) x → x.1 ≡ w
-expression_leaves (D.here l at (D.must (D.part v f D.given))) = refl
+expression_leaves (D.at_next l at (D.must (D.part v f D.given))) = refl
 
 -- What begins with all slots and imports that were live gives them back.
 gives : (w v : Live) → take (length w.slots) v.slots ≡ w.slots → take (length w.imports) v.imports ≡ w.imports

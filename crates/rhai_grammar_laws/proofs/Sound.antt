@@ -143,17 +143,17 @@ module _ (rule : (g : Goal) → Production (Val g)) where
     Told h p s = is_memory (op_at s) ≡ false → Goes call h p s (run_from p (Some (op_at s, pos_at s))) s true
 
     this_seen : (h : Goal) (k : Lexeme → Position → Production (Val h))
-        → ((l : Lexeme) (p : Position) → Both call h (k l p)) → (s : Point) → Told h (S.this k) s
+        → ((l : Lexeme) (p : Position) → Both call h (k l p)) → (s : Point) → Told h (S.any k) s
     this_seen h k rest s m =
         let l = op_at s in
         let p = pos_at s in
         let any : Fits any_token s = fine m refl in
-        take (then_ h (k l p) (S.this k) s (past code s) (λ tree f. (F.this l p f, λ j o w. any ▹ refl ▹ w))
+        take (then_ h (k l p) (S.any k) s (past code s) (λ tree f. (F.any l p f, λ j o w. any ▹ refl ▹ w))
         ((rest l p).new (past code s) false))
 
     take_seen : (h : Goal) (wanted : Lexeme → Bool) (missing : Lexeme → Cause)
         (k : Lexeme → Position → Production (Val h)) → ((l : Lexeme) (p : Position) → Both call h (k l p))
-        → (s : Point) → Told h (S.take wanted missing k) s
+        → (s : Point) → Told h (S.of_kind wanted missing k) s
     take_seen h wanted missing k rest s m =
         let l = op_at s in
         let p = pos_at s in
@@ -162,9 +162,9 @@ module _ (rule : (g : Goal) → Production (Val g)) where
         either (wanted l)
         (λ is.
         let fits : Fits (wanted_or wanted missing) s = fine m (known true is) in
-        take (then_ h (k l p) (S.take wanted missing k) s (past code s)
-        (λ tree f. (F.take l p f, λ j o w. fits ▹ refl ▹ w)) ((rest l p).new (past code s) false)))
-        (λ other. refuse h (S.take wanted missing k) s F.take_here (ill m (known false other)))
+        take (then_ h (k l p) (S.of_kind wanted missing k) s (past code s)
+        (λ tree f. (F.of_kind l p f, λ j o w. fits ▹ refl ▹ w)) ((rest l p).new (past code s) false)))
+        (λ other. refuse h (S.of_kind wanted missing k) s F.of_kind_here (ill m (known false other)))
 
     if_seen : (h : Goal) (t : Lexeme → Bool) (p q : Production (Val h)) → Both call h p → Both call h q → (s : Point)
         → Told h (S.if_next t p q) s
@@ -179,18 +179,18 @@ module _ (rule : (g : Goal) → Production (Val g)) where
         then_ h q (S.if_next t p q) s s (λ tree f. (F.if_not f, λ j o w. fits ▹ w)) (g.seen s m))
 
     choose_seen : (h : Goal) (v : View) (k : SeenBy v → Production (Val h)) → ((y : SeenBy v) → Both call h (k y))
-        → (s : Point) → Told h (S.choose v k) s
+        → (s : Point) → Told h (S.by_next v k) s
     choose_seen h v k rest s m =
         let l = op_at s in
         let any : Fits any_token s = fine m refl in
-        then_ h (k (view v l)) (S.choose v k) s s (λ tree f. (F.choose l (pos_at s) f, λ j o w. any ▹ refl ▹ w))
+        then_ h (k (view v l)) (S.by_next v k) s s (λ tree f. (F.by_next l (pos_at s) f, λ j o w. any ▹ refl ▹ w))
         ((rest (view v l)).seen s m)
 
     here_seen : (h : Goal) (k : Position → Production (Val h)) → ((p : Position) → Both call h (k p)) → (s : Point)
-        → Told h (S.here k) s
+        → Told h (S.at_next k) s
     here_seen h k rest s m =
         let any : Fits any_token s = fine m refl in
-        then_ h (k (pos_at s)) (S.here k) s s (λ tree f. (F.here (op_at s) (pos_at s) f, λ j o w. any ▹ refl ▹ w))
+        then_ h (k (pos_at s)) (S.at_next k) s s (λ tree f. (F.at_next (op_at s) (pos_at s) f, λ j o w. any ▹ refl ▹ w))
         ((rest (pos_at s)).seen s m)
 
     tested : (h : Goal) (t : Bool) (e : Refusal) (p : Production (Val h)) → is_at_last e.cause ≡ false
@@ -285,18 +285,18 @@ module _ (rule : (g : Goal) → Production (Val g)) where
       both h (S.never why) tidy =
           let seen : (s : Point) → Told h (S.never why) s = λ s m. refuse h (S.never why) s F.never_here (ill m refl) in
           record { new = λ s b. look (seen s); seen = seen }
-      both h (S.take w m k) tidy =
+      both h (S.of_kind w m k) tidy =
           let seen = take_seen h w m k (λ l p. both h (k l p) (tidy l p)) in record {
             new = λ s b. look (seen s);
             seen = seen;
           }
-      both h (S.this k) tidy =
+      both h (S.any k) tidy =
           let seen = this_seen h k (λ l p. both h (k l p) (tidy l p)) in record {
             new = λ s b. look (seen s);
             seen =
                 seen;
           }
-      both h (S.choose v k) tidy =
+      both h (S.by_next v k) tidy =
           let seen = choose_seen h v k (λ y. both h (k y) (tidy y)) in record {
             new = λ s b. look (seen s);
             seen =
@@ -305,7 +305,7 @@ module _ (rule : (g : Goal) → Production (Val g)) where
       both h (S.if_next t p q) tidy =
           let seen = if_seen h t p q (both h p tidy.0) (both h q tidy.1) in
           record { new = λ s b. look (seen s); seen = seen }
-      both h (S.here k) tidy =
+      both h (S.at_next k) tidy =
           let seen = here_seen h k (λ p. both h (k p) (tidy p)) in record { new = λ s b. look (seen s); seen = seen }
       both h (S.uses v ok e c u k) tidy =
           let seen = used h v ok e c u k tidy.0 (λ b. both h (k b) (tidy.1 b)) in

@@ -14,7 +14,7 @@ use Rattle.rhai_grammar_reading.specs.Reading.{Goal, Val}
 use Rattle.rhai_grammar.specs.Productions.{Production, SeenBy, view}
 use Rattle.rhai_grammar.specs.Productions as S
 use Rattle.rhai_grammar.specs.Forms as F
-use Rattle.rhai_grammar.specs.Forms.{given, take, this, if_so, if_not, choose, must, checked, knows, adds, uses}
+use Rattle.rhai_grammar.specs.Forms.{given, of_kind, any, if_so, if_not, by_next, must, checked, knows, adds, uses}
 use Rattle.rhai_grammar.specs.Forms.{captures}
 use Rattle.rhai_grammar.specs.Forms.{part, literal, apart, in_text, form}
 use Rattle.rhai_grammar_laws.proofs.TreesIf.{RightIf}
@@ -39,13 +39,13 @@ module _ (rule : (g : Goal) → Production (Val g)) where
         (n : Mode) → Modes code n k → Last r n → Modes code n (F.demanded rule f k)
     modes_in given k n h e = h
     modes_in F.never_here k n h e = e
-    modes_in (take l at f) k n h e = (refl, code, modes_in f k n h e)
-    modes_in F.take_here k n h e = e
-    modes_in (this l at f) k n h e = (refl, code, modes_in f k n h e)
+    modes_in (of_kind l at f) k n h e = (refl, code, modes_in f k n h e)
+    modes_in F.of_kind_here k n h e = e
+    modes_in (any l at f) k n h e = (refl, code, modes_in f k n h e)
     modes_in (if_so f) k n h e = modes_in f k n h e
     modes_in (if_not f) k n h e = modes_in f k n h e
-    modes_in (choose l at f) k n h e = (refl, modes_in f k n h e)
-    modes_in (F.here l at f) k n h e = (refl, modes_in f k n h e)
+    modes_in (by_next l at f) k n h e = (refl, modes_in f k n h e)
+    modes_in (F.at_next l at f) k n h e = (refl, modes_in f k n h e)
     modes_in (must f) k n h e = modes_in f k n h e
     modes_in (checked f) k n h e = modes_in f k n h e
     modes_in F.must_here k n h e = e
@@ -74,11 +74,11 @@ module _ (G : Position → Type 0) (Wants : Goal → Type 0) (Right : (g : Goal)
   abbrev pub Allows : {A : Type 0} → (A → Type 0) → Production A → Type 0
   Allows R (S.give x) = R x
   Allows R (S.never why) = Unit {0}
-  Allows R (S.take w m k) = (l : Lexeme) (at : Position) → G at → Allows R (k l at)
-  Allows R (S.this k) = (l : Lexeme) (at : Position) → G at → Allows R (k l at)
-  Allows R (S.choose v k) = (y : SeenBy v) → Allows R (k y)
+  Allows R (S.of_kind w m k) = (l : Lexeme) (at : Position) → G at → Allows R (k l at)
+  Allows R (S.any k) = (l : Lexeme) (at : Position) → G at → Allows R (k l at)
+  Allows R (S.by_next v k) = (y : SeenBy v) → Allows R (k y)
   Allows R (S.if_next t p q) = Allows R p × Allows R q
-  Allows R (S.here k) = (at : Position) → G at → Allows R (k at)
+  Allows R (S.at_next k) = (at : Position) → G at → Allows R (k at)
   Allows R (S.must b e p) = (b ≡ false → G e.at) × Allows R p
   Allows R (S.checked e p) = FaultAt G e × Allows R p
   Allows R (S.knows t e p) = G e.at × Allows R p
@@ -112,8 +112,8 @@ module _ (G : Position → Type 0) (Wants : Goal → Type 0) (Right : (g : Goal)
   refusing : (m : Lexeme → Cause) → Places G (λ l. Wrong (m l))
   refusing m = record { places = λ l. tt }
 
-  any : Places G F.any_token
-  any = record { places = λ l. tt }
+  no_matter : Places G F.any_token
+  no_matter = record { places = λ l. tt }
 
   no_other : Places G anything
   no_other = record { places = λ l. tt }
@@ -192,13 +192,13 @@ module _ (G : Position → Type 0) (Wants : Goal → Type 0) (Right : (g : Goal)
           → Allows (λ x. Right h x) p → AtTokens G (RightIf Right h r) (F.demanded rule f k) (more_if r k)
       stands_in given k h = done h
       stands_in (F.never_here {why = why}) k h = next (refusing why) here
-      stands_in (take {w = w} {m = m} l at f) k h = next (wanted w m) (tok no_other (λ a. stands_in f k (h l at a)))
-      stands_in (F.take_here {w = w} {m = m}) k h = next (wanted w m) here
-      stands_in (this l at f) k h = next any (tok no_other (λ a. stands_in f k (h l at a)))
+      stands_in (of_kind {w = w} {m = m} l at f) k h = next (wanted w m) (tok no_other (λ a. stands_in f k (h l at a)))
+      stands_in (F.of_kind_here {w = w} {m = m}) k h = next (wanted w m) here
+      stands_in (any l at f) k h = next no_matter (tok no_other (λ a. stands_in f k (h l at a)))
       stands_in (if_so {t = t} f) k h = next (decided t) (stands_in f k h.0)
       stands_in (if_not {t = t} f) k h = next (undecided t) (stands_in f k h.1)
-      stands_in (choose {v = v} l at f) k h = next any (ahead no_other (λ a. stands_in f k (h (view v l))))
-      stands_in (F.here l at f) k h = next any (ahead no_other (λ a. stands_in f k (h at a)))
+      stands_in (by_next {v = v} l at f) k h = next no_matter (ahead no_other (λ a. stands_in f k (h (view v l))))
+      stands_in (F.at_next l at f) k h = next no_matter (ahead no_other (λ a. stands_in f k (h at a)))
       stands_in (must f) k h = test h.0 (stands_in f k h.1)
       stands_in (checked f) k h = no_fault h.0 (stands_in f k h.1)
       stands_in F.must_here k h = test h.0 here

@@ -133,9 +133,9 @@ call_begins : (x : Node) (c : Context) (w : Live) (at : Position) (q : Bool) (v 
     → {y : Bool × Nodes} (f : F.Filled production (R.In (R.Called at q) c w) (P.called_by c w at q v) y) (a b : List Taken)
     (k : Demands) (s t : Point) → Met (F.demanded production f k) s t
     → is_called_by ((spelling_in production f ++ a) ++ b) x ≡ (is_variable x && excludes_use (op_at s))
-call_begins x c w at q calls_by.Pair i (F.this l p f) a b k s t m = by_next x l p s m.1.0
-call_begins x c w at q calls_by.List i (F.this l p f) a b k s t m = by_next x l p s m.1.0
-call_begins x c w at q calls_by.Bang i (F.this l p f) a b k s t m = by_next x l p s m.1.0
+call_begins x c w at q calls_by.Pair i (F.any l p f) a b k s t m = by_next x l p s m.1.0
+call_begins x c w at q calls_by.List i (F.any l p f) a b k s t m = by_next x l p s m.1.0
+call_begins x c w at q calls_by.Bang i (F.any l p f) a b k s t m = by_next x l p s m.1.0
 call_begins x c w at q calls_by.Nothing i f a b k s t m = absurd cc
 
 -- Links begin with the next token, or there are none.
@@ -143,21 +143,21 @@ links_begin : (x : Node) (w : Live) (spot : LinkSpot) (v : Linking) {ls : List L
     (f : F.Filled production (R.Links w spot) (P.links_by w spot v) ls) (k : Demands) (s t : Point)
     → Met (F.demanded production f k) s t → (is_variable x && excludes_use (op_at s)) ≡ false
     → is_called_by (spelling_in production f ++ []) x ≡ (is_variable x && excludes_use (op_at s))
-links_begin x w spot link.Bracket (F.this l p f) k s t m e = by_next x l p s m.1.0
-links_begin x w spot link.Dot (F.this l p f) k s t m e = by_next x l p s m.1.0
+links_begin x w spot link.Bracket (F.any l p f) k s t m e = by_next x l p s m.1.0
+links_begin x w spot link.Dot (F.any l p f) k s t m e = by_next x l p s m.1.0
 links_begin x w spot link.Nothing (F.checked F.given) k s t m e = sym e
 
 followed : (c : Context) (w : Live) (x : Node) (n : Lexeme) → IsFollowed (R.In R.Operand c w) (P.operand_ends c w x) x n
-followed c w x n y (F.part z (F.form (F.if_so (F.part q (F.form (F.this l at f)) rest))) more) k s t m e =
+followed c w x n y (F.part z (F.form (F.if_so (F.part q (F.form (F.any l at f)) rest))) more) k s t m e =
     by_next x l at s m.1.1.0 ∙ ap (λ i. is_variable x && excludes_use i) e
-followed c w x n y (F.part z (F.form (F.if_not (F.if_so (F.part q (F.form (F.choose l at f)) rest)))) more) k s t m e =
+followed c w x n y (F.part z (F.form (F.if_not (F.if_so (F.part q (F.form (F.by_next l at f)) rest)))) more) k s t m e =
     let is = fine (F.only_if (λ token. is_variable x && calls token)) (op_at s) m.1.0 in
     let calls_it = second (is_variable x) (calls (op_at s)) (or_other (is_variable x && calls (op_at s)) is.1) in
     let call : calls l ≡ true = ap (λ (i : Item). calls i.lexeme) (sym m.1.1.1.0) ∙ calls_it in
     call_begins x c w _ _ (calling l) call f (spelling_in production rest) (spelling_in production more) _ s t
     m.1.1.1.1
     ∙ ap (λ i. is_variable x && excludes_use i) e
-followed c w x n y (F.part z (F.form (F.if_not (F.if_not F.given))) (F.part ls (F.form (F.choose l at f))
+followed c w x n y (F.part z (F.form (F.if_not (F.if_not F.given))) (F.part ls (F.form (F.by_next l at f))
     (F.checked F.given))) k s t m e =
     let p = fine (F.only_if_not (λ token. is_variable x && qualifies token)) (op_at s) m.0 in
     let q = fine (F.only_if_not (λ token. is_variable x && calls token)) (op_at s) m.1.0 in

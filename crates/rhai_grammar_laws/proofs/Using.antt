@@ -14,8 +14,8 @@ use Rattle.rhai_grammar.specs.Productions.{Production, SeenBy, view}
 use Rattle.rhai_grammar.specs.Productions as S
 use Rattle.rhai_grammar.specs.Rules.{production}
 use Rattle.rhai_grammar.specs.Forms as F
-use Rattle.rhai_grammar.specs.Forms.{adds, apart, captures, choose, form, given, here, if_not, if_so, in_text}
-use Rattle.rhai_grammar.specs.Forms.{knows, literal, must, checked, part, take, this, uses}
+use Rattle.rhai_grammar.specs.Forms.{adds, apart, captures, by_next, form, given, at_next, if_not, if_so, in_text}
+use Rattle.rhai_grammar.specs.Forms.{knows, literal, must, checked, part, of_kind, any, uses}
 use Rattle.rhai_grammar.specs.Events.{Event, ended_in, ends_only, events, events_in, spelling_in}
 use Rattle.rhai_grammar_laws.specs.WrittenFunctions.{WrittenFunction, functions_in, functions_of, own_names}
 use Rattle.rhai_grammar_laws.specs.WrittenUses.{IsEnd, IsUse, UseOrEnd, called_in, ends_of, free_names, is_called_by}
@@ -118,13 +118,13 @@ module _ (Right : (g : Goal) → Val g → (first next : Lexeme) → (names : Li
       → (own names : List Text) → Type 0
   Keeps h R (S.give x) n own names = R x n names
   Keeps h R (S.never why) n own names = Unit {0}
-  Keeps h R (S.take w m k) n own names =
+  Keeps h R (S.of_kind w m k) n own names =
       w n ≡ true → (at : Position) (next : Lexeme) → Keeps h R (k n at) next own names
-  Keeps h R (S.this k) n own names = (at : Position) (next : Lexeme) → Keeps h R (k n at) next own names
+  Keeps h R (S.any k) n own names = (at : Position) (next : Lexeme) → Keeps h R (k n at) next own names
   Keeps h R (S.if_next t p q) n own names =
       (t n ≡ true → Keeps h R p n own names) × (t n ≡ false → Keeps h R q n own names)
-  Keeps h R (S.choose v k) n own names = (y : SeenBy v) → view v n ≡ y → Keeps h R (k y) n own names
-  Keeps h R (S.here k) n own names = (at : Position) → Keeps h R (k at) n own names
+  Keeps h R (S.by_next v k) n own names = (y : SeenBy v) → view v n ≡ y → Keeps h R (k y) n own names
+  Keeps h R (S.at_next k) n own names = (at : Position) → Keeps h R (k at) n own names
   Keeps h R (S.must b e p) n own names = b ≡ true → Keeps h R p n own names
   Keeps h R (S.checked e p) n own names = e ≡ None → Keeps h R p n own names
   Keeps h R (S.knows t e p) n own names = Keeps h R p n own names
@@ -219,14 +219,14 @@ module _ (Right : (g : Goal) → Val g → (first next : Lexeme) → (names : Li
         right = subst (Right j x a (op_at s)) (sym (append-nil names)) h;
         all = tt;
       }
-      keeps (take {h = j} {w = w} {m = c} {k = q} {r = Some x} l at f) a own names k s t m h =
+      keeps (of_kind {h = j} {w = w} {m = c} {k = q} {r = Some x} l at f) a own names k s t m h =
           let u = past code s in
           let is = or_wrong (w (op_at s)) (c (op_at s)) (fine (F.wanted_or w c) (op_at s) m.0).1 in
           let on : Keeps j (λ y next us. Right j y a next us) (q l at) (op_at u) own names =
           subst (λ (i : Item). Keeps j (λ y next us. Right j y a next us) (q i.lexeme i.at) (op_at u) own names)
           m.1.0 (h is (next_at code s).at (op_at u)) in
           keeps f a own names k u t m.1.1 on
-      keeps (this {h = j} {k = q} {r = Some x} l at f) a own names k s t m h =
+      keeps (any {h = j} {k = q} {r = Some x} l at f) a own names k s t m h =
           let u = past code s in
           let on : Keeps j (λ y next us. Right j y a next us) (q l at) (op_at u) own names =
           subst (λ (i : Item). Keeps j (λ y next us. Right j y a next us) (q i.lexeme i.at) (op_at u) own names)
@@ -237,9 +237,9 @@ module _ (Right : (g : Goal) → Val g → (first next : Lexeme) → (names : Li
       keeps (if_not {t = test} f) a own names k s t m h =
           let fine_here = fine (F.only_if_not test) (op_at s) m.0 in
           keeps f a own names k s t m.1 (h.1 (no_other (test (op_at s)) {v = Fine} fine_here.1).0)
-      keeps (choose {v = v} l at f) a own names k s t m h =
+      keeps (by_next {v = v} l at f) a own names k s t m h =
           keeps f a own names k s t m.1.1 (h (view v l) (ap (λ (i : Item). view v i.lexeme) m.1.0))
-      keeps (here l at f) a own names k s t m h = keeps f a own names k s t m.1.1 (h at)
+      keeps (at_next l at f) a own names k s t m h = keeps f a own names k s t m.1.1 (h at)
       keeps (must f) a own names k s t m h = keeps f a own names k s t m.1 (h m.0)
       keeps (checked f) a own names k s t m h = keeps f a own names k s t m.1 (h m.0)
       keeps (knows f) a own names k s t m h = keeps f a own names k s t m.1 h
@@ -308,12 +308,12 @@ mutual
   ends : {h : Goal} {p : Production (Val h)} {x : Val h} (f : F.Filled production h p x) (own : List Text)
       → ended_in (events_in production f) ≡ ended_by (functions_of production f own)
   ends given own = refl
-  ends (take l at f) own = ends f own
-  ends (this l at f) own = ends f own
+  ends (of_kind l at f) own = ends f own
+  ends (any l at f) own = ends f own
   ends (if_so f) own = ends f own
   ends (if_not f) own = ends f own
-  ends (choose l at f) own = ends f own
-  ends (here l at f) own = ends f own
+  ends (by_next l at f) own = ends f own
+  ends (at_next l at f) own = ends f own
   ends (must f) own = ends f own
   ends (checked f) own = ends f own
   ends (knows f) own = ends f own

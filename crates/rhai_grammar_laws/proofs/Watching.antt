@@ -220,12 +220,12 @@ mutual
       (f : D.Filled production h p x) → Watches within may (live_slots h) p
       → Joins within (F.events_in production f) (uses_of production f)
   joined_in within may D.given q = none within
-  joined_in within may (D.take l at f) q = joined_in within may f (q l at)
-  joined_in within may (D.this l at f) q = joined_in within may f (q l at)
+  joined_in within may (D.of_kind l at f) q = joined_in within may f (q l at)
+  joined_in within may (D.any l at f) q = joined_in within may f (q l at)
   joined_in within may (D.if_so f) q = joined_in within may f q.0
   joined_in within may (D.if_not f) q = joined_in within may f q.1
-  joined_in within may (D.choose {v = v} l at f) q = joined_in within may f (q (view v l))
-  joined_in within may (D.here l at f) q = joined_in within may f (q at)
+  joined_in within may (D.by_next {v = v} l at f) q = joined_in within may f (q (view v l))
+  joined_in within may (D.at_next l at f) q = joined_in within may f (q at)
   joined_in within may (D.must f) q = joined_in within may f q
   joined_in within may (D.checked f) q = joined_in within may f q
   joined_in within may (D.knows f) q = joined_in within may f q
@@ -268,7 +268,7 @@ named : {c : Context} {w : Live} {x : Node}
     → Met (D.demanded production f Nothing) s t → uses_of production f ≡ use_of
     (excludes_use (next_at code t).lexeme)
     (record { name = text_of (next_at code s).lexeme; at = (next_at code s).at }) w.slots
-named {w = w} (D.this k p (D.uses l q D.given)) s t m =
+named {w = w} (D.any k p (D.uses l q D.given)) s t m =
     let second : l ≡ (next_at code t).lexeme =
     sym (ap (λ (u : Point). (next_at code u).lexeme) (sym m.1.1.1.1) ∙ ap (λ (i : Item). i.lexeme) m.1.1.0) in
     let first : item k p ≡ next_at code s = sym m.1.0 in
@@ -298,11 +298,11 @@ IsList _ = ⊥
 abbrev Silent : {A : Type 0} → Production A → Type 0
 Silent (S.give x) = Unit {0}
 Silent (S.never why) = Unit {0}
-Silent (S.take t m k) = (l : Lexeme) (at : Position) → Silent (k l at)
-Silent (S.this k) = (l : Lexeme) (at : Position) → Silent (k l at)
+Silent (S.of_kind t m k) = (l : Lexeme) (at : Position) → Silent (k l at)
+Silent (S.any k) = (l : Lexeme) (at : Position) → Silent (k l at)
 Silent (S.if_next t p q) = Silent p × Silent q
-Silent (S.choose v k) = (y : S.SeenBy v) → Silent (k y)
-Silent (S.here k) = (at : Position) → Silent (k at)
+Silent (S.by_next v k) = (y : S.SeenBy v) → Silent (k y)
+Silent (S.at_next k) = (at : Position) → Silent (k at)
 Silent (S.must b e p) = Silent p
 Silent (S.checked e p) = Silent p
 Silent (S.knows t e p) = Silent p
@@ -349,12 +349,12 @@ mutual
   nothing_of : {h : Goal} {p : Production (Val h)} {x : Val h} (f : D.Filled production h p x) → Silent p
       → uses_of production f ≡ []
   nothing_of D.given q = refl
-  nothing_of (D.take l at f) q = nothing_of f (q l at)
-  nothing_of (D.this l at f) q = nothing_of f (q l at)
+  nothing_of (D.of_kind l at f) q = nothing_of f (q l at)
+  nothing_of (D.any l at f) q = nothing_of f (q l at)
   nothing_of (D.if_so f) q = nothing_of f q.0
   nothing_of (D.if_not f) q = nothing_of f q.1
-  nothing_of (D.choose {v = v} l at f) q = nothing_of f (q (view v l))
-  nothing_of (D.here l at f) q = nothing_of f (q at)
+  nothing_of (D.by_next {v = v} l at f) q = nothing_of f (q (view v l))
+  nothing_of (D.at_next l at f) q = nothing_of f (q at)
   nothing_of (D.must f) q = nothing_of f q
   nothing_of (D.checked f) q = nothing_of f q
   nothing_of (D.knows f) q = nothing_of f q

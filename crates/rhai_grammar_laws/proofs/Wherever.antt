@@ -10,7 +10,7 @@ use Rattle.rhai_grammar.specs.declared.due.DueToken.TheVariants.{RightBrace}
 use Rattle.rhai_grammar_reading.specs.Reading.{Goal, Val}
 use Rattle.rhai_grammar.specs.Productions.{Production}
 use Rattle.rhai_grammar.specs.Forms as F
-use Rattle.rhai_grammar.specs.Forms.{given, take, this, if_so, if_not, choose, here, must, checked, knows, adds, uses}
+use Rattle.rhai_grammar.specs.Forms.{given, of_kind, any, if_so, if_not, by_next, at_next, must, checked, knows, adds, uses}
 use Rattle.rhai_grammar.specs.Forms.{captures, part, literal, apart, in_text, form}
 use Rattle.rhai_grammar.specs.Events as D
 use Rattle.rhai_grammar_laws.specs.EventLaws as law
@@ -106,12 +106,12 @@ module _ (rule : (g : Goal) → Production (Val g)) where
     begins_in : {h : Goal} {p : Production (Val h)} {x : Val h} (f : F.Filled rule h p x) (ts : List Taken) → InCode ts
         → InCode (D.spelling_in rule f ++ ts)
     begins_in given ts c = c
-    begins_in (take l at f) ts c = refl
-    begins_in (this l at f) ts c = refl
+    begins_in (of_kind l at f) ts c = refl
+    begins_in (any l at f) ts c = refl
     begins_in (if_so f) ts c = begins_in f ts c
     begins_in (if_not f) ts c = begins_in f ts c
-    begins_in (choose l at f) ts c = begins_in f ts c
-    begins_in (here l at f) ts c = begins_in f ts c
+    begins_in (by_next l at f) ts c = begins_in f ts c
+    begins_in (at_next l at f) ts c = begins_in f ts c
     begins_in (must f) ts c = begins_in f ts c
     begins_in (checked f) ts c = begins_in f ts c
     begins_in (knows f) ts c = begins_in f ts c
@@ -137,11 +137,11 @@ module _ (rule : (g : Goal) → Production (Val g)) where
         (ts : List Taken) → InCode ts → (s t o : Point) → Met (F.demanded rule f k) s t
         → Alike (D.spelling_in rule f ++ ts) s o → Again ts k (F.demanded rule f k) t o
     again_in given k ts c s t o m a = record { from = s; met = m; other = o; alike = a; back = λ e m. m }
-    again_in (take {w = w} {m = q} l at f) k ts c s t o m a =
+    again_in (of_kind {w = w} {m = q} l at f) k ts c s t o m a =
         let n : next_at code o ≡ next_at code s = a.given.0 ∙ sym a.gives.0 in
         stays (again_in f k ts c (past code s) t (past code o) m.1.1 (token code l at a))
         (λ e r. (fits_too (F.wanted_or w q) s o n m.0, (a.given.0, r)))
-    again_in (this l at f) k ts c s t o m a =
+    again_in (any l at f) k ts c s t o m a =
         let n : next_at code o ≡ next_at code s = a.given.0 ∙ sym a.gives.0 in
         stays (again_in f k ts c (past code s) t (past code o) m.1.1 (token code l at a))
         (λ e r. (fits_too F.any_token s o n m.0, (a.given.0, r)))
@@ -151,10 +151,10 @@ module _ (rule : (g : Goal) → Production (Val g)) where
     again_in (if_not {t = test} f) k ts c s t o m a =
         stays (again_in f k ts c s t o m.1 a) (λ e r.
         (fits_too (F.only_if_not test) s o (same_next (begins_in f ts c) a) m.0, r))
-    again_in (choose l at f) k ts c s t o m a =
+    again_in (by_next l at f) k ts c s t o m a =
         let n = same_next (begins_in f ts c) a in
         stays (again_in f k ts c s t o m.1.1 a) (λ e r. (fits_too F.any_token s o n m.0, (n ∙ m.1.0, r)))
-    again_in (here l at f) k ts c s t o m a =
+    again_in (at_next l at f) k ts c s t o m a =
         let n = same_next (begins_in f ts c) a in
         stays (again_in f k ts c s t o m.1.1 a) (λ e r. (fits_too F.any_token s o n m.0, (n ∙ m.1.0, r)))
     again_in (must f) k ts c s t o m a = stays (again_in f k ts c s t o m.1 a) (λ e r. (m.0, r))
@@ -190,15 +190,15 @@ module _ (rule : (g : Goal) → Production (Val g)) where
         let us = D.spelling_in rule rest ++ ts in
         let r = again f Nothing us (begins_in rest ts c) s m.0 o m.1
         (grouped (D.spelling rule f) (D.spelling_in rule rest) ts a) in
-        let here : Alike us m.0 r.other = subst (λ p. Alike us p r.other) r.met r.alike in
-        stays (again_in rest k ts c m.0 t r.other m.2 here) (λ e q. (r.other, r.back r.other refl, q))
+        let at_next : Alike us m.0 r.other = subst (λ p. Alike us p r.other) r.met r.alike in
+        stays (again_in rest k ts c m.0 t r.other m.2 at_next) (λ e q. (r.other, r.back r.other refl, q))
     again_in (apart v us n f rest) k ts c s t o m a =
         let us = D.spelling_in rule rest ++ ts in
         let r = again f Nothing us (begins_in rest ts c) (M.apart s) m.0 (M.apart o) m.1
         (opened (grouped (D.spelling rule f) (D.spelling_in rule rest) ts a)) in
-        let here : Alike us m.0 r.other = subst (λ p. Alike us p r.other) r.met r.alike in
+        let at_next : Alike us m.0 r.other = subst (λ p. Alike us p r.other) r.met r.alike in
         stays (again_in rest k ts c (with_captured s.captured m.0) t (with_captured o.captured r.other) m.3
-        (closed s o a.captured here))
+        (closed s o a.captured at_next))
         (λ e q. (r.other, r.back r.other refl, (ap closure_count here.library ∙ m.2.0, here.captured ∙ m.2.1), q))
     again_in (in_text closing l at f) k ts c s t o m a =
         let n : next_at code o ≡ next_at code s = a.given.0 ∙ sym a.gives.0 in

@@ -11,11 +11,11 @@ module _ (Right : (g : Goal) → Val g → Type 0) where
   abbrev pub Always : {A : Type 0} → (A → Type 0) → Production A → Type 0
   Always R (S.give x) = R x
   Always R (S.never why) = Unit {0}
-  Always R (S.take w m k) = (l : Lexeme) (at : Position) → Always R (k l at)
-  Always R (S.this k) = (l : Lexeme) (at : Position) → Always R (k l at)
+  Always R (S.of_kind w m k) = (l : Lexeme) (at : Position) → Always R (k l at)
+  Always R (S.any k) = (l : Lexeme) (at : Position) → Always R (k l at)
   Always R (S.if_next t p q) = Always R p × Always R q
-  Always R (S.choose v k) = (y : SeenBy v) → Always R (k y)
-  Always R (S.here k) = (at : Position) → Always R (k at)
+  Always R (S.by_next v k) = (y : SeenBy v) → Always R (k y)
+  Always R (S.at_next k) = (at : Position) → Always R (k at)
   Always R (S.must b e p) = Always R p
   Always R (S.checked e p) = Always R p
   Always R (S.knows t e p) = Always R p

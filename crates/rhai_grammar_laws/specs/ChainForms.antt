@@ -11,7 +11,7 @@ use Rattle.rhai_grammar.specs.Goals.{In, BinaryOp, Expression, Goal, Links, Oper
 use Rattle.rhai_grammar.specs.Productions.{Production}
 use Rattle.rhai_grammar.specs.Rules as P
 use Rattle.rhai_grammar.specs.Rules.{production}
-use Rattle.rhai_grammar.specs.Forms.{Form, Filled, given, take, this, if_so, if_not, choose, here, must, checked}
+use Rattle.rhai_grammar.specs.Forms.{Form, Filled, given, of_kind, any, if_so, if_not, by_next, at_next, must, checked}
 use Rattle.rhai_grammar.specs.Forms.{knows, adds}
 use Rattle.rhai_grammar.specs.Forms.{uses, captures, part, literal, apart, in_text, form}
 use Rattle.rhai_grammar_laws.specs.Shaped.{Alike, lexemes}
@@ -35,12 +35,12 @@ abbrev mutual
 
   pub pieces_in : {h : Goal} {p : Production (Val h)} {x : Val h} → Filled production h p x → List Piece
   pieces_in given = []
-  pieces_in (take l at f) = token l ∷ pieces_in f
-  pieces_in (this l at f) = token l ∷ pieces_in f
+  pieces_in (of_kind l at f) = token l ∷ pieces_in f
+  pieces_in (any l at f) = token l ∷ pieces_in f
   pieces_in (if_so f) = pieces_in f
   pieces_in (if_not f) = pieces_in f
-  pieces_in (choose l at f) = pieces_in f
-  pieces_in (here l at f) = pieces_in f
+  pieces_in (by_next l at f) = pieces_in f
+  pieces_in (at_next l at f) = pieces_in f
   pieces_in (must f) = pieces_in f
   pieces_in (checked f) = pieces_in f
   pieces_in (knows f) = pieces_in f
@@ -77,7 +77,7 @@ chain_by _ {context} {live} (part p primary (part y postfix (part links more res
 
 abbrev pub chain_in : {context : Context} {live : Live} {x : Node} → Form production (In Operand context live) x
     → Option WrittenChain
-chain_in (form (choose l at f)) = chain_by (beginning l) f
+chain_in (form (by_next l at f)) = chain_by (beginning l) f
 
 -- ---- chains in parentheses
 
@@ -96,17 +96,17 @@ unless_called _ chain = None
 -- the chain of an expression that is no more
 abbrev pub chain_alone : {context : Context} {live : Live} {x : Node} → Form production (In Expression context live) x
     → Option WrittenChain
-chain_alone (form (here l at (must (part y operand (part x run rest))))) = unless_operated run (chain_in operand)
+chain_alone (form (at_next l at (must (part y operand (part x run rest))))) = unless_operated run (chain_in operand)
 
 -- the chain in a primary, if that is `(`, a chain and `)`
 abbrev pub group_by : (v : Beginning) {context : Context} {live : Live} {x : Node}
     → Filled production (In Primary context live) (P.primary_by context live v) x → Option WrittenChain
-group_by begin.Group (this l at (must (part x inside closing))) = chain_alone inside
+group_by begin.Group (any l at (must (part x inside closing))) = chain_alone inside
 group_by _ f = None
 
 abbrev pub group_in : {context : Context} {live : Live} {x : Node} → Form production (In Primary context live) x
     → Option WrittenChain
-group_in (form (choose l at f)) = group_by (beginning l) f
+group_in (form (by_next l at f)) = group_by (beginning l) f
 
 -- a chain with more links
 abbrev pub with_links : Option WrittenChain → List Link → List Piece → Option WrittenChain
@@ -126,7 +126,7 @@ ungrouped_by _ (part p primary (part y postfix (part links more rest))) =
 
 abbrev pub ungrouped : {context : Context} {live : Live} {x : Node} → Form production (In Operand context live) x
     → Option WrittenChain
-ungrouped (form (choose l at f)) = ungrouped_by (beginning l) f
+ungrouped (form (by_next l at f)) = ungrouped_by (beginning l) f
 
 -- The second form is the first, a chain in parentheses and perhaps more links, without the two parentheses: what is
 -- written is alike but for these.

@@ -13,11 +13,11 @@ module _ (Right : (g : Goal) → Val g → (first next : Lexeme) → Type 0) (Go
   abbrev pub Keeps : {A : Type 0} → (A → Lexeme → Type 0) → Production A → Lexeme → Type 0
   Keeps R (S.give x) n = R x n
   Keeps R (S.never why) n = Unit {0}
-  Keeps R (S.take w m k) n = w n ≡ true → (at : Position) (next : Lexeme) → Keeps R (k n at) next
-  Keeps R (S.this k) n = (at : Position) (next : Lexeme) → Keeps R (k n at) next
+  Keeps R (S.of_kind w m k) n = w n ≡ true → (at : Position) (next : Lexeme) → Keeps R (k n at) next
+  Keeps R (S.any k) n = (at : Position) (next : Lexeme) → Keeps R (k n at) next
   Keeps R (S.if_next t p q) n = (t n ≡ true → Keeps R p n) × (t n ≡ false → Keeps R q n)
-  Keeps R (S.choose v k) n = (y : SeenBy v) → view v n ≡ y → Keeps R (k y) n
-  Keeps R (S.here k) n = (at : Position) → Keeps R (k at) n
+  Keeps R (S.by_next v k) n = (y : SeenBy v) → view v n ≡ y → Keeps R (k y) n
+  Keeps R (S.at_next k) n = (at : Position) → Keeps R (k at) n
   Keeps R (S.must b e p) n = b ≡ true → Keeps R p n
   Keeps R (S.checked e p) n = e ≡ None → Keeps R p n
   Keeps R (S.knows t e p) n = Keeps R p n

@@ -13,7 +13,7 @@ use Rattle.rhai_grammar.specs.Contexts.{Context, level_up, nothing_live}
 use Rattle.rhai_grammar.specs.Delivered.{code}
 use Rattle.rhai_grammar.specs.RowStreams.{between, depth, unread}
 use Rattle.rhai_grammar.specs.Trees.{variable_of}
-use Rattle.rhai_grammar.specs.Forms.{Form, choose, form, given, here, if_not, if_so, must, part, this, uses}
+use Rattle.rhai_grammar.specs.Forms.{Form, by_next, form, given, at_next, if_not, if_so, must, part, any, uses}
 use Rattle.rhai_grammar.specs.Forms.{checked_here}
 use Rattle.rhai_grammar.specs.Goals.{In, Operand}
 use Rattle.rhai_grammar.specs.Promises.{Unwritten, Written, tree_of}
@@ -50,7 +50,7 @@ questioned = record { negated = true; terminating = false }
 -- the first operand of a formula
 abbrev pub operand_of : {c : Context} → Written (formula c)
     → (x : Node) × Form production (In Operand (level_up c) nothing_live) x
-operand_of (x, form (part y (form (here l at (must (part z operand run)))) end)) = (z, operand)
+operand_of (x, form (part y (form (at_next l at (must (part z operand run)))) end)) = (z, operand)
 
 -- Index(x, Dot(y, Index(prop_a, Dot(z, prop_b)))), in which no bracket ends the chain, with the columns of the names
 -- and links in written order
@@ -167,14 +167,14 @@ capture_tokens =
 -- up to the end of the chain, where the `!` is refused
 abbrev pub capture_form : (c : Context) → Unwritten (formula c)
 capture_form c =
-    open_whole (open_operand (Name (codes "a")) 1 (choose (Name (codes "a")) (place 1 1) (part _ (form (choose
-    (Name (codes "a")) (place 1 1) (this (Name (codes "a")) (place 1 1) (uses (Sign token.Period) (place 1 2) given))))
-    (part _ (form (if_not (if_not given))) (open_part (choose (Sign token.Period) (place 1 2) (this (Sign token.Period)
-    (place 1 2) (choose (Name (codes "f")) (place 1 3) (must (part _ (form (this (Name (codes "f")) (place 1 3) (if_so
-    (part _ (form (choose (Sign token.Bang) (place 1 4) (this (Sign token.Bang) (place 1 4) (choose (Sign token.Unit)
-    (place 1 5) (must (this (Sign token.Unit) (place 1 5) given)))))) given)))) (open_part (choose (Sign token.Period)
-    (place 1 7) (this (Sign token.Period) (place 1 7) (choose (Name (codes "b")) (place 1 8) (must (part _ (form (this
-    (Name (codes "b")) (place 1 8) (if_not (if_not given)))) (open_part (choose (Sign token.EOF) (place 1 9)
+    open_whole (open_operand (Name (codes "a")) 1 (by_next (Name (codes "a")) (place 1 1) (part _ (form (by_next
+    (Name (codes "a")) (place 1 1) (any (Name (codes "a")) (place 1 1) (uses (Sign token.Period) (place 1 2) given))))
+    (part _ (form (if_not (if_not given))) (open_part (by_next (Sign token.Period) (place 1 2) (any (Sign token.Period)
+    (place 1 2) (by_next (Name (codes "f")) (place 1 3) (must (part _ (form (any (Name (codes "f")) (place 1 3) (if_so
+    (part _ (form (by_next (Sign token.Bang) (place 1 4) (any (Sign token.Bang) (place 1 4) (by_next (Sign token.Unit)
+    (place 1 5) (must (any (Sign token.Unit) (place 1 5) given)))))) given)))) (open_part (by_next (Sign token.Period)
+    (place 1 7) (any (Sign token.Period) (place 1 7) (by_next (Name (codes "b")) (place 1 8) (must (part _ (form (any
+    (Name (codes "b")) (place 1 8) (if_not (if_not given)))) (open_part (by_next (Sign token.EOF) (place 1 9)
     checked_here))))))))))))))))))
 
 abbrev pub capture_refused : Refusal

@@ -13,10 +13,10 @@ use Rattle.rhai_grammar.specs.Delivered.{code}
 use Rattle.rhai_grammar.specs.Flags as bit
 use Rattle.rhai_grammar.specs.Operators.{operator_call}
 use Rattle.rhai_grammar.specs.RowStreams.{between, depth, under, unread}
-use Rattle.rhai_grammar.specs.Forms.{choose, form, given, if_not, literal_here, must, must_here, open_form, part}
+use Rattle.rhai_grammar.specs.Forms.{by_next, form, given, if_not, literal_here, must, must_here, open_form, part}
 use Rattle.rhai_grammar.specs.Forms.{checked_here}
 use Rattle.rhai_grammar.specs.Forms.{checked}
-use Rattle.rhai_grammar.specs.Forms.{take, take_here, this}
+use Rattle.rhai_grammar.specs.Forms.{of_kind, of_kind_here, any}
 use Rattle.rhai_grammar.specs.Promises.{Unwritten, Written, tree_of}
 use Rattle.rhai_grammar_laws.specs.RowsOfStatements.{begins, definition, integer, let_tokens, variable}
 use Rattle.rhai_grammar_laws.specs.WorkedForms.{alone, joins_last, name_alone, named, number, right, right_of_range}
@@ -87,7 +87,7 @@ break_tokens = break_begun ++ break_rest
 -- up to the `break`, outside of a loop
 abbrev pub break_refused : Unwritten (script (depth 64))
 break_refused =
-    open_first (open_form (choose (Sign token.Break) (place 1 1) (this (Sign token.Break) (place 1 1) must_here))) tt
+    open_first (open_form (by_next (Sign token.Break) (place 1 1) (any (Sign token.Break) (place 1 1) must_here))) tt
 
 -- under the flag that says that a loop's body is parsed
 abbrev pub in_loop : Context
@@ -159,10 +159,10 @@ default_rest =
 -- up to the arm after the default arm
 abbrev pub default_form : Unwritten (script (depth 64))
 default_form =
-    open_first (open_switch 1 (alone (number 1 8) (opening_brace 10)) 10 (open_form (choose (Sign token.Underscore)
-    (place 1 12) (this (Sign token.Underscore) (place 1 12) (open_part (if_not (take (Sign token.DoubleArrow)
+    open_first (open_switch 1 (alone (number 1 8) (opening_brace 10)) 10 (open_form (by_next (Sign token.Underscore)
+    (place 1 12) (any (Sign token.Underscore) (place 1 12) (open_part (if_not (of_kind (Sign token.DoubleArrow)
     (place 1 14) (part _ (does tt (evaluates (alone (number 2 17) (comma 18)) tt)) (part _ (comma_after 18) (open_part
-    (choose (Integer (pos 3)) (place 1 20) must_here))))))))))) tt
+    (by_next (Integer (pos 3)) (place 1 20) must_here))))))))))) tt
 
 pub record DefaultRow : Type 0 where
   pub missed : Misses (script (depth 64)) default_form (unread (default_begun ++ default_rest) 28)
@@ -190,13 +190,13 @@ integer_begun = range_case ++ range_action ++ integer_action
 -- up to the action of the second arm, after which its case is refused
 abbrev pub integer_form : Unwritten (script (depth 64))
 integer_form =
-    open_first (open_switch 1 (name_alone (codes "x") 8 (opening_brace 10)) 10 (open_form (choose (Integer (pos 0))
+    open_first (open_switch 1 (name_alone (codes "x") 8 (opening_brace 10)) 10 (open_form (by_next (Integer (pos 0))
     (place 1 12) (part _ (form (part _ (cased (run (number 0 12 (range 13)) (
     joins_last (range 13) tt (right_of_range (number 5 15 (arrow 17)) tt) (arrow 17)))) (part _ (form (if_not given))
-    (take (Sign token.DoubleArrow) (place 1 17) (part _ (does tt (evaluates (alone (number 1 20) (comma 21)) tt))
-    (checked (part _ (comma_after 21) given))))))) (open_part (choose (Integer (pos 3)) (place 1 23)
+    (of_kind (Sign token.DoubleArrow) (place 1 17) (part _ (does tt (evaluates (alone (number 1 20) (comma 21)) tt))
+    (checked (part _ (comma_after 21) given))))))) (open_part (by_next (Integer (pos 3)) (place 1 23)
     (open_part (part _ (cased (alone (number 3 23) (arrow 25)))
-    (part _ (form (if_not given)) (take (Sign token.DoubleArrow) (place 1 25) (part _
+    (part _ (form (if_not given)) (of_kind (Sign token.DoubleArrow) (place 1 25) (part _
     (does tt (evaluates (alone (number 2 28) (closing_brace 30)) tt)) checked_here))))))))))) tt
 
 pub record IntegerRow : Type 0 where
@@ -218,10 +218,10 @@ pipe_rest =
 -- up to the `)` that is missing
 abbrev pub pipe_form : Unwritten (script (depth 64))
 pipe_form =
-    open_first (open_switch 1 (alone (number 1 8) (opening_brace 10)) 10 (open_form (choose (Sign token.LeftParen)
-    (place 1 12) (open_part (open_part (open_part (literal_here (open_operand (Sign token.LeftParen) 12 (choose
-    (Sign token.LeftParen) (place 1 12) (open_part (choose (Sign token.LeftParen) (place 1 12) (this
-    (Sign token.LeftParen) (place 1 12) (must (part _ (alone (number 1 13) (case_bar 15)) take_here)))))))))))))) tt
+    open_first (open_switch 1 (alone (number 1 8) (opening_brace 10)) 10 (open_form (by_next (Sign token.LeftParen)
+    (place 1 12) (open_part (open_part (open_part (literal_here (open_operand (Sign token.LeftParen) 12 (by_next
+    (Sign token.LeftParen) (place 1 12) (open_part (by_next (Sign token.LeftParen) (place 1 12) (any
+    (Sign token.LeftParen) (place 1 12) (must (part _ (alone (number 1 13) (case_bar 15)) of_kind_here)))))))))))))) tt
 
 pub record PipeRow : Type 0 where
   pub missed : Misses (script (depth 64)) pipe_form (unread (pipe_begun ++ pipe_rest) 26)

@@ -14,7 +14,7 @@ use Rattle.rhai_grammar.specs.Flags.{all_but_strict_var, expression_flags, expre
 use Rattle.rhai_grammar.specs.EntryContexts.{at_entry, entry_expression, entry_script}
 use Rattle.rhai_grammar.specs.Libraries.{Ended, Library}
 use Rattle.rhai_grammar.specs.RowStreams.{between, holding, unread}
-use Rattle.rhai_grammar.specs.Forms.{choose, form, given, must, part, take, text_here, this}
+use Rattle.rhai_grammar.specs.Forms.{by_next, form, given, must, part, of_kind, text_here, any}
 use Rattle.rhai_grammar.specs.Promises.{Unwritten, Written, tree_of}
 use Rattle.rhai_grammar_laws.specs.RowsOfChains as chain
 use Rattle.rhai_grammar_laws.specs.RowsOfClosures as closure
@@ -157,9 +157,9 @@ string_form c so =
 
 abbrev pub string_begun_form : (c : Context) → Holds (has_single_blocks c) → Unwritten (formula c)
 string_begun_form c so =
-    open_whole (open_operand (Interpolated (codes "a")) 1 (choose (Interpolated (codes "a")) (place 1 1) (open_part
-    (choose (Interpolated (codes "a")) (place 1 1) (this (Interpolated (codes "a")) (place 1 1) (must (open_part (part
-    _ (form (take (Sign token.LeftBrace) (place 1 3) given)) (must (part _ (one so (single (name_alone (codes "b") 4
+    open_whole (open_operand (Interpolated (codes "a")) 1 (by_next (Interpolated (codes "a")) (place 1 1) (open_part
+    (by_next (Interpolated (codes "a")) (place 1 1) (any (Interpolated (codes "a")) (place 1 1) (must (open_part (part
+    _ (form (of_kind (Sign token.LeftBrace) (place 1 3) given)) (must (part _ (one so (single (name_alone (codes "b") 4
     (closing_brace 5)))) (open_part (text_here (place 1 5)))))))))))))
 
 pub record StringEnters : Type 0 where

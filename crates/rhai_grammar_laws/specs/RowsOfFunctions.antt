@@ -10,7 +10,7 @@ use Rattle.rhai_grammar.specs.Contexts.{Context}
 use Rattle.rhai_grammar.specs.Delivered.{code}
 use Rattle.rhai_grammar.specs.Libraries.{Ended}
 use Rattle.rhai_grammar.specs.RowStreams.{between, holding, on_global_level, unread}
-use Rattle.rhai_grammar.specs.Forms.{choose, form, given, if_not, must, must_here, open_form, part, this}
+use Rattle.rhai_grammar.specs.Forms.{by_next, form, given, if_not, must, must_here, open_form, part, any}
 use Rattle.rhai_grammar.specs.Promises.{Unwritten, Written, tree_of}
 use Rattle.rhai_grammar_laws.specs.RowsOfStatements.{variable}
 use Rattle.rhai_grammar_laws.specs.WorkedForms.{name_alone}
@@ -123,18 +123,18 @@ commented_function = record {
 -- the comment before a `let`, before the end mark, and in a block
 abbrev pub comment_before_let : Unwritten (script on_global_level)
 comment_before_let =
-    open_first (open_form (choose (Comment (codes "/** a */")) (place 1 1) (this (Comment (codes "/** a */"))
-    (place 1 1) (must (part _ (form (if_not given)) (choose (Sign token.Let) (place 1 10) must_here)))))) tt
+    open_first (open_form (by_next (Comment (codes "/** a */")) (place 1 1) (any (Comment (codes "/** a */"))
+    (place 1 1) (must (part _ (form (if_not given)) (by_next (Sign token.Let) (place 1 10) must_here)))))) tt
 
 abbrev pub comment_before_end : Unwritten (script on_global_level)
 comment_before_end =
-    open_first (open_form (choose (Comment (codes "/** a */")) (place 1 1) (this (Comment (codes "/** a */"))
-    (place 1 1) (must (part _ (form (if_not given)) (choose (Sign token.EOF) (place 1 9) must_here)))))) tt
+    open_first (open_form (by_next (Comment (codes "/** a */")) (place 1 1) (any (Comment (codes "/** a */"))
+    (place 1 1) (must (part _ (form (if_not given)) (by_next (Sign token.EOF) (place 1 9) must_here)))))) tt
 
 abbrev pub comment_in_block : Unwritten (script on_global_level)
 comment_in_block =
     open_first (open_block_at 1 (open_many tt (
-    open_first (open_form (choose (Comment (codes "/** a */")) (place 1 3) (this (Comment (codes "/** a */"))
+    open_first (open_form (by_next (Comment (codes "/** a */")) (place 1 3) (any (Comment (codes "/** a */"))
     (place 1 3) must_here))) tt))) tt
 
 -- The function has the comment. Before another statement or the end mark that is refused, and at once where a block's

@@ -11,7 +11,7 @@ use Rattle.rhai_grammar.specs.Delivered.{code}
 use Rattle.rhai_grammar.specs.Literals.{too_many_items}
 use Rattle.rhai_grammar.specs.RowStreams.{between, depth, unread}
 use Rattle.rhai_grammar.specs.Trees.{function_called, named_by, variable_of}
-use Rattle.rhai_grammar.specs.Forms.{choose, never_here, open_form}
+use Rattle.rhai_grammar.specs.Forms.{by_next, never_here, open_form}
 use Rattle.rhai_grammar.specs.Promises.{Unwritten, Written, tree_of}
 use Rattle.rhai_grammar_laws.specs.WorkedForms.{alone, number, whole}
 use Rattle.rhai_grammar_laws.specs.WorkedLists.{called, last_argument}
@@ -73,7 +73,7 @@ abbrev pub sized_form : Unwritten (formula two_items)
 sized_form =
     open_whole (open_operand (Sign token.LeftBracket) 1 (open_array 1 (
     open_items (alone (number 1 2) (comma 3)) tt 3 (
-    open_items (alone (number 2 5) (comma 6)) tt 6 (open_form (choose (Integer (pos 3)) (place 1 8) never_here))))))
+    open_items (alone (number 2 5) (comma 6)) tt 6 (open_form (by_next (Integer (pos 3)) (place 1 8) never_here))))))
 
 abbrev pub sized_refused : Refusal
 sized_refused = refusal (too_many_items 2) (place 1 8)

@@ -12,7 +12,7 @@ use Rattle.rhai_grammar.specs.Delivered.{code}
 use Rattle.rhai_grammar.specs.Literals.{item_role}
 use Rattle.rhai_grammar.specs.Operators.{operator_call}
 use Rattle.rhai_grammar.specs.RowStreams.{between, depth, unread}
-use Rattle.rhai_grammar.specs.Forms.{choose, never_here, open_form}
+use Rattle.rhai_grammar.specs.Forms.{by_next, never_here, open_form}
 use Rattle.rhai_grammar.specs.Promises.{Unwritten, Written, tree_of}
 use Rattle.rhai_grammar_laws.specs.WorkedForms.{alone, joins_last, minus, number, right, right_of_range, run}
 use Rattle.rhai_grammar_laws.specs.WorkedForms.{unit_before, whole, zero_before}
@@ -61,8 +61,8 @@ ended_tokens = (Integer (pos 5), 1) ∷ (Sign token.ExclusiveRange, 2) ∷ []
 abbrev pub ended_range : (c : Context) → Unwritten (formula c)
 ended_range c =
     open_whole (open_run (number 5 1 (range 2)) (
-    open_right (range 2) tt (open_form (choose (Sign token.EOF) (place 1 4) (open_part (choose (Sign token.EOF)
-    (place 1 4) (open_part (choose (Sign token.EOF) (place 1 4) never_here))))))))
+    open_right (range 2) tt (open_form (by_next (Sign token.EOF) (place 1 4) (open_part (by_next (Sign token.EOF)
+    (place 1 4) (open_part (by_next (Sign token.EOF) (place 1 4) never_here))))))))
 
 pub record EndedRow : Type 0 where
   pub missed : Misses (formula (depth 0)) (ended_range (depth 0)) (unread ended_tokens 4)

@@ -15,7 +15,7 @@ use Rattle.rhai_grammar.specs.Delivered.{code}
 use Rattle.rhai_grammar.specs.Flags as bit
 use Rattle.rhai_grammar.specs.RowStreams.{between, depth, under, unread}
 use Rattle.rhai_grammar.specs.Trees.{variable_of}
-use Rattle.rhai_grammar.specs.Forms.{choose, never_here, open_form, part, take_here}
+use Rattle.rhai_grammar.specs.Forms.{by_next, never_here, open_form, part, of_kind_here}
 use Rattle.rhai_grammar.specs.Promises.{Unwritten, Written, tree_of}
 use Rattle.rhai_grammar_laws.specs.WorkedForms.{alone, name_alone, number, whole}
 use Rattle.rhai_grammar_laws.specs.WorkedOpenForms.{open_part, too_deep}
@@ -160,14 +160,14 @@ ended_tokens = open_tokens ++ ((Sign token.SemiColon, 4) ∷ [])
 abbrev pub open_block : Unwritten (script (depth 64))
 open_block =
     open_first (open_block_at 1 (open_many tt (
-    open_next (evaluates (alone (number 1 3) (end_mark 4)) tt) tt (choose (Sign token.EOF) (place 1 4) never_here))))
+    open_next (evaluates (alone (number 1 3) (end_mark 4)) tt) tt (by_next (Sign token.EOF) (place 1 4) never_here))))
     tt
 
 -- up to the `}` that is missing
 abbrev pub ended_block : Unwritten (script (depth 64))
 ended_block =
     open_first (open_block_at 1 (open_many tt (
-    open_next (evaluates (alone (number 1 3) (semicolon 4)) tt) tt (open_semicolon 4 (open_form (choose
+    open_next (evaluates (alone (number 1 3) (semicolon 4)) tt) tt (open_semicolon 4 (open_form (by_next
     (Sign token.EOF) (place 1 5) never_here)))))) tt
 
 pub record OpenBlockRow : Type 0 where
@@ -190,7 +190,7 @@ single_blocks = under bit.disallow_statements_in_blocks 0
 abbrev pub single_form : Unwritten (script single_blocks)
 single_form =
     open_first (open_block_at 1 (open_form (part _ (one tt (single (alone (number 1 3) (semicolon 4))))
-    (open_part take_here)))) tt
+    (open_part of_kind_here)))) tt
 
 abbrev pub block_values : Context
 block_values = under bit.disallow_statements_in_blocks bit.stmt_expr

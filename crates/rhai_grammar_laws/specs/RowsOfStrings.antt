@@ -11,8 +11,8 @@ use Rattle.rhai_grammar.specs.Contexts.{Context, has_single_blocks}
 use Rattle.rhai_grammar.specs.Delivered.{Ends, Point, Then, Tokens, code, item, past, text}
 use Rattle.rhai_grammar.specs.RowStreams.{between, depth, taken_from, unread}
 use Rattle.rhai_grammar.specs.Trees.{variable_of}
-use Rattle.rhai_grammar.specs.Forms.{choose, form, given, must, never_here, open_form, part, part_here, take}
-use Rattle.rhai_grammar.specs.Forms.{text_here, this}
+use Rattle.rhai_grammar.specs.Forms.{by_next, form, given, must, never_here, open_form, part, part_here, of_kind}
+use Rattle.rhai_grammar.specs.Forms.{text_here, any}
 use Rattle.rhai_grammar.specs.Promises.{Unwritten, Written, tree_of}
 use Rattle.rhai_grammar_laws.specs.RowsOfStatements.{integer}
 use Rattle.rhai_grammar_laws.specs.WorkedForms.{alone, joins_last, jump_right, name_alone, named, number, run, whole}
@@ -67,9 +67,9 @@ string_form c so =
 -- the same up to the last text, in place of which another token stands
 abbrev pub string_begun_form : (limit : ℕ) → Unwritten (formula (depth limit))
 string_begun_form limit =
-    open_whole (open_operand (Interpolated (codes "a")) 1 (choose (Interpolated (codes "a")) (place 1 1) (open_part
-    (choose (Interpolated (codes "a")) (place 1 1) (this (Interpolated (codes "a")) (place 1 1) (must (open_part (part
-    _ (form (take (Sign token.LeftBrace) (place 1 3) given)) (must (part _ (many tt (
+    open_whole (open_operand (Interpolated (codes "a")) 1 (by_next (Interpolated (codes "a")) (place 1 1) (open_part
+    (by_next (Interpolated (codes "a")) (place 1 1) (any (Interpolated (codes "a")) (place 1 1) (must (open_part (part
+    _ (form (of_kind (Sign token.LeftBrace) (place 1 3) given)) (must (part _ (many tt (
     first_of (evaluates (name_alone (codes "b") 4 (closing_brace 5)) tt) tt (last_inside 5))) (open_part
     (text_here (place 1 5)))))))))))))
 
@@ -125,14 +125,14 @@ jump_tree =
 abbrev pub jump_value_deep : Unwritten (formula (depth 2))
 jump_value_deep =
     open_whole (open_run (named (codes "a") 1 (coalesce 3)) (
-    open_right (coalesce 3) tt (open_form (choose (Sign token.Return) (place 1 6) (part_here (open_return 6 (open_jump
+    open_right (coalesce 3) tt (open_form (by_next (Sign token.Return) (place 1 6) (part_here (open_return 6 (open_jump
     (too_deep (Integer (pos 1)) 13))))))))
 
 -- up to the `return`, which is too deep under the limit 1
 abbrev pub jump_deep : Unwritten (formula (depth 1))
 jump_deep =
     open_whole (open_run (named (codes "a") 1 (coalesce 3)) (
-    open_right (coalesce 3) tt (open_form (choose (Sign token.Return) (place 1 6)
+    open_right (coalesce 3) tt (open_form (by_next (Sign token.Return) (place 1 6)
     (part_here (open_return 6 deep_jump))))))
 
 pub record JumpRow : Type 0 where
@@ -152,7 +152,7 @@ return_rest = (Sign token.RightParen, 8) ∷ []
 
 -- up to the `;` that is missing
 abbrev pub return_form : Unwritten (script (depth 64))
-return_form = open_next (returns 1 without_value) tt (choose (Sign token.RightParen) (place 1 8) never_here)
+return_form = open_next (returns 1 without_value) tt (by_next (Sign token.RightParen) (place 1 8) never_here)
 
 pub record ReturnRow : Type 0 where
   pub missed : Misses (script (depth 64)) return_form (unread (return_begun ++ return_rest) 9)

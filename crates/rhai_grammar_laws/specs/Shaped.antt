@@ -8,7 +8,7 @@ use Rattle.rhai_grammar.specs.Goals.{In, Goal, Val, Expression, Script}
 use Rattle.rhai_grammar.specs.Productions.{Production, view}
 use Rattle.rhai_grammar.specs.Rules.{production}
 use Rattle.rhai_grammar.specs.Forms as F
-use Rattle.rhai_grammar.specs.Forms.{given, take, this, if_so, if_not, choose, here, must, checked, knows, adds, uses}
+use Rattle.rhai_grammar.specs.Forms.{given, of_kind, any, if_so, if_not, by_next, at_next, must, checked, knows, adds, uses}
 use Rattle.rhai_grammar.specs.Forms.{captures, part, literal, apart, in_text, form}
 
 -- the same context at another level
@@ -27,12 +27,12 @@ module _ (rule : (g : Goal) → Production (Val g)) where
     pub AlikeIn : {g h : Goal} {p : Production (Val g)} {q : Production (Val h)} {x : Val g} {y : Val h}
         → F.Filled rule g p x → F.Filled rule h q y → Type 0
     AlikeIn given given = Unit {0}
-    AlikeIn (take l at f) (take m pos e) = (l ≡ m) × AlikeIn f e
-    AlikeIn (this l at f) (this m pos e) = (l ≡ m) × AlikeIn f e
+    AlikeIn (of_kind l at f) (of_kind m pos e) = (l ≡ m) × AlikeIn f e
+    AlikeIn (any l at f) (any m pos e) = (l ≡ m) × AlikeIn f e
     AlikeIn (if_so f) (if_so e) = AlikeIn f e
     AlikeIn (if_not f) (if_not e) = AlikeIn f e
-    AlikeIn (choose {v = v} l at f) (choose m pos e) = (view v l ≡ view v m) × AlikeIn f e
-    AlikeIn (here l at f) (here m pos e) = AlikeIn f e
+    AlikeIn (by_next {v = v} l at f) (by_next m pos e) = (view v l ≡ view v m) × AlikeIn f e
+    AlikeIn (at_next l at f) (at_next m pos e) = AlikeIn f e
     AlikeIn (must f) (must e) = AlikeIn f e
     AlikeIn (checked f) (checked e) = AlikeIn f e
     AlikeIn (knows f) (knows e) = AlikeIn f e

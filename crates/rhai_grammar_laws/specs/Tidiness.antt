@@ -14,11 +14,11 @@ Early (Some e) = is_at_last e.cause ≡ false
 abbrev pub Tidy : {A : Type 0} → Production A → Type 0
 Tidy (S.give x) = Unit {0}
 Tidy (S.never why) = Unit {0}
-Tidy (S.take w m k) = (l : Lexeme) (at : Position) → Tidy (k l at)
-Tidy (S.this k) = (l : Lexeme) (at : Position) → Tidy (k l at)
-Tidy (S.choose v k) = (y : SeenBy v) → Tidy (k y)
+Tidy (S.of_kind w m k) = (l : Lexeme) (at : Position) → Tidy (k l at)
+Tidy (S.any k) = (l : Lexeme) (at : Position) → Tidy (k l at)
+Tidy (S.by_next v k) = (y : SeenBy v) → Tidy (k y)
 Tidy (S.if_next t p q) = Tidy p × Tidy q
-Tidy (S.here k) = (at : Position) → Tidy (k at)
+Tidy (S.at_next k) = (at : Position) → Tidy (k at)
 Tidy (S.must b e p) = (is_at_last e.cause ≡ false) × Tidy p
 Tidy (S.checked e p) = Early e × Tidy p
 Tidy (S.knows t e p) = (is_at_last e.cause ≡ false) × Tidy p

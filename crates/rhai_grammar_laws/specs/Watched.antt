@@ -86,11 +86,11 @@ module _ (within names : Bool) (slots : List SlotValue) where
   abbrev pub Watches : {A : Type 0} → Production A → Type 0
   Watches (S.give x) = Unit {0}
   Watches (S.never why) = Unit {0}
-  Watches (S.take t m k) = (l : Lexeme) (at : Position) → Watches (k l at)
-  Watches (S.this k) = (l : Lexeme) (at : Position) → Watches (k l at)
+  Watches (S.of_kind t m k) = (l : Lexeme) (at : Position) → Watches (k l at)
+  Watches (S.any k) = (l : Lexeme) (at : Position) → Watches (k l at)
   Watches (S.if_next t p q) = Watches p × Watches q
-  Watches (S.choose v k) = (y : SeenBy v) → Watches (k y)
-  Watches (S.here k) = (at : Position) → Watches (k at)
+  Watches (S.by_next v k) = (y : SeenBy v) → Watches (k y)
+  Watches (S.at_next k) = (at : Position) → Watches (k at)
   Watches (S.must b e p) = Watches p
   Watches (S.checked e p) = Watches p
   Watches (S.knows t e p) = Watches p

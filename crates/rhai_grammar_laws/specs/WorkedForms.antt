@@ -15,9 +15,9 @@ use Rattle.rhai_grammar.specs.declared.role.OperandStart.TheVariants as first
 use Rattle.rhai_grammar.specs.Goals.{In, BinaryOp, Expression, Links, NextOperator, Operand, Primary, RightOperand}
 use Rattle.rhai_grammar.specs.Goals.{Statement, Whole}
 use Rattle.rhai_grammar.specs.Strengths.{continues}
-use Rattle.rhai_grammar.specs.Forms.{Filled, Form, choose, form, given, here, if_not, if_so, must, part, take}
+use Rattle.rhai_grammar.specs.Forms.{Filled, Form, by_next, form, given, at_next, if_not, if_so, must, part, of_kind}
 use Rattle.rhai_grammar.specs.Forms.{checked}
-use Rattle.rhai_grammar.specs.Forms.{this, uses}
+use Rattle.rhai_grammar.specs.Forms.{any, uses}
 use Rattle.rhai_grammar.specs.Promises.{Written}
 use Rattle.rhai_grammar.specs.Rules as P
 use Rattle.rhai_grammar.specs.Rules.{production}
@@ -29,7 +29,7 @@ use Rattle.rhai_grammar_laws.specs.WorkedTokens.{After}
 -- no further link
 abbrev pub unlinked : {w : Live} {spot : LinkSpot} {o : Option (ℕ × Bool)} → After spot.settings.filter o
     → Form production (Links w spot) spot.before
-unlinked {w} {spot} t = form (choose t.token (place 1 t.column) (t.no_link w spot))
+unlinked {w} {spot} t = form (by_next t.token (place 1 t.column) (t.no_link w spot))
 
 -- a primary that is not called, and its links
 abbrev pub linked : {c : Context} {w : Live} {x : Node} {ls : List Link} → Form production (In Primary c w) x
@@ -41,80 +41,80 @@ linked f links = part _ f (part _ (form (if_not (if_not given))) (part _ links (
 abbrev pub number : {c : Context} {w : Live} {o : Option (ℕ × Bool)} (n column : ℕ) → After c.filter o
     → Form production (In Operand c w) (node.integer (pos n) (place 1 column))
 number n column t =
-    form (choose (Integer (pos n)) (place 1 column) (linked (form (choose (Integer (pos n)) (place 1 column) (
-    this (Integer (pos n)) (place 1 column) given))) (unlinked t)))
+    form (by_next (Integer (pos n)) (place 1 column) (linked (form (by_next (Integer (pos n)) (place 1 column) (
+    any (Integer (pos n)) (place 1 column) given))) (unlinked t)))
 
 -- a string without links
 abbrev pub quoted : {c : Context} {w : Live} {o : Option (ℕ × Bool)} (text : Text) (column : ℕ) → After c.filter o
     → Form production (In Operand c w) (node.string text (place 1 column))
 quoted text column t =
-    form (choose (String text) (place 1 column) (linked (form (choose (String text) (place 1 column) (
-    this (String text) (place 1 column) given))) (unlinked t)))
+    form (by_next (String text) (place 1 column) (linked (form (by_next (String text) (place 1 column) (
+    any (String text) (place 1 column) given))) (unlinked t)))
 
 -- a name that is no path, before this token
 abbrev pub name_before : {c : Context} {w : Live} (name : Text) (column : ℕ) (l : Lexeme) (at : ℕ)
     → Form production (In Primary c w) (name_tree w.slots (excludes_use l) name (place 1 column))
 name_before name column l at =
-    form (choose (Name name) (place 1 column) (this (Name name) (place 1 column) (uses l (place 1 at) given)))
+    form (by_next (Name name) (place 1 column) (any (Name name) (place 1 column) (uses l (place 1 at) given)))
 
 -- a name without links, which is not called
 abbrev pub named : {c : Context} {w : Live} {o : Option (ℕ × Bool)} (name : Text) (column : ℕ) (t : After c.filter o)
     → Form production (In Operand c w) (name_tree w.slots (excludes_use t.token) name (place 1 column))
 named name column t =
-    form (choose (Name name) (place 1 column) (linked (name_before name column t.token t.column) (unlinked t)))
+    form (by_next (Name name) (place 1 column) (linked (name_before name column t.token t.column) (unlinked t)))
 
 -- a name with links, of which the first begins with this token
 abbrev pub name_linked : {c : Context} {w : Live} {ls : List Link} (name : Text) (column : ℕ) (l : Lexeme) (at : ℕ)
     → Form production (Links w (spot_after_operand c (name_tree w.slots (excludes_use l) name (place 1 column)))) ls
     → Form production (In Operand c w) (chained (name_tree w.slots (excludes_use l) name (place 1 column)) ls)
 name_linked name column l at links =
-    form (choose (Name name) (place 1 column) (linked (name_before name column l at) links))
+    form (by_next (Name name) (place 1 column) (linked (name_before name column l at) links))
 
 -- an operand after a `-`
 abbrev pub minus : {c : Context} {w : Live} {x : Node} (column : ℕ) → Form production (In Operand (level_up c) w) x
     → Form production (In Operand c w) (signed (Sign token.Minus) (place 1 column) x)
 minus column f =
-    form (choose (Sign token.Minus) (place 1 column) (this (Sign token.Minus) (place 1 column) (must (
+    form (by_next (Sign token.Minus) (place 1 column) (any (Sign token.Minus) (place 1 column) (must (
     part _ f (must given)))))
 
 -- the omitted zero before `..`
 abbrev pub zero_before : {c : Context} {w : Live} (column : ℕ) → After c.filter (Some (140, false))
     → Form production (In Operand c w) (node.integer (pos 0) (place 1 column))
 zero_before column t =
-    form (choose (Sign token.ExclusiveRange) (place 1 column) (linked (form (
-    choose (Sign token.ExclusiveRange) (place 1 column) (
-    here (Sign token.ExclusiveRange) (place 1 column) given))) (unlinked t)))
+    form (by_next (Sign token.ExclusiveRange) (place 1 column) (linked (form (
+    by_next (Sign token.ExclusiveRange) (place 1 column) (
+    at_next (Sign token.ExclusiveRange) (place 1 column) given))) (unlinked t)))
 
 -- an expression in parentheses, and its links
 abbrev pub group : {c : Context} {w : Live} {x : Node} {ls : List Link} (opening : ℕ)
     → Form production (In Expression (level_up c) w) x → (closing : ℕ)
     → Form production (Links w (spot_after_operand c x)) ls → Form production (In Operand c w) (chained x ls)
 group opening f closing links =
-    form (choose (Sign token.LeftParen) (place 1 opening) (linked (form (
-    choose (Sign token.LeftParen) (place 1 opening) (this (Sign token.LeftParen) (place 1 opening) (must (
-    part _ f (take (Sign token.RightParen) (place 1 closing) given)))))) links))
+    form (by_next (Sign token.LeftParen) (place 1 opening) (linked (form (
+    by_next (Sign token.LeftParen) (place 1 opening) (any (Sign token.LeftParen) (place 1 opening) (must (
+    part _ f (of_kind (Sign token.RightParen) (place 1 closing) given)))))) links))
 
 -- ---- runs
 
 -- no operator follows
 abbrev pub ends : {c : Context} {w : Live} {at : Position} {parent : ℕ} {x : Node} → After c.filter None
     → Form production (In (BinaryOp at parent x) c w) x
-ends t = form (part None (form (choose t.token (place 1 t.column) t.operator)) given)
+ends t = form (part None (form (by_next t.token (place 1 t.column) t.operator)) given)
 
 -- an operator follows that binds too weakly to go on with this run
 abbrev pub leaves : {c : Context} {w : Live} {at : Position} {parent : ℕ} {x : Node} {op : ℕ × Bool}
     (t : After c.filter (Some op)) → Holds (not (continues parent op.0 op.1))
     → Form production (In (BinaryOp at parent x) c w) x
 leaves {parent = parent} {op = op} t so =
-    form (part _ (form (choose t.token (place 1 t.column) t.operator)) (
+    form (part _ (form (by_next t.token (place 1 t.column) t.operator)) (
     fails _ (continues parent op.0 op.1) so given))
 
 -- the first token of an operand, and of an expression
 abbrev pub front : {c : Context} {w : Live} {x : Node} → Form production (In Operand c w) x → Lexeme × Position
-front (form (choose l at f)) = (l, at)
+front (form (by_next l at f)) = (l, at)
 
 abbrev pub start : {c : Context} {w : Live} {x : Node} → Form production (In Expression c w) x → Lexeme × Position
-start (form (here l at f)) = (l, at)
+start (form (at_next l at f)) = (l, at)
 
 -- what follows the operand before the rest of a run
 abbrev pub next_of : {c : Context} {w : Live} {at : Position} {parent : ℕ} {x y : Node}
@@ -130,8 +130,8 @@ abbrev pub joins : {c : Context} {w : Live} {at : Position} {parent : ℕ} {x y 
     → Form production (In (BinaryOp (place 1 t.column) parent (operator_tree t.token (place 1 t.column) x r)) (level_up c) w) z
     → Form production (In (BinaryOp at parent x) c w) z
 joins {parent = parent} {op = op} t so y r z =
-    form (part _ (form (choose t.token (place 1 t.column) t.operator)) (
-    holds _ (continues parent op.0 op.1) so (this t.token (place 1 t.column) (
+    form (part _ (form (by_next t.token (place 1 t.column) t.operator)) (
+    holds _ (continues parent op.0 op.1) so (any t.token (place 1 t.column) (
     part _ y (part _ (next_of r).1 (must (part _ r (must (must (part _ z given))))))))))
 
 -- the same where the run ends after the right operand
@@ -144,7 +144,7 @@ joins_last t so y u = joins t so y (ends u) (ends u)
 -- an operand on the right of an operator that is no range and no `??`
 abbrev pub right : {c : Context} {w : Live} {x : Node} → Form production (In Operand c w) x
     → Form production (In (RightOperand Elsewhere) c w) x
-right f = form (choose (front f).0 (front f).1 (part _ f given))
+right f = form (by_next (front f).0 (front f).1 (part _ f given))
 
 -- an operand is written there
 abbrev pub IsWritten : OperandStart → Type 0
@@ -163,7 +163,7 @@ operand_there first.Jump so f = absurd so
 abbrev pub right_of_range : {c : Context} {w : Live} {x : Node} (f : Form production (In Operand c w) x)
     → IsWritten (operand_start AfterRange (front f).0) → Form production (In (RightOperand AfterRange) c w) x
 right_of_range f so =
-    form (choose (front f).0 (front f).1 (operand_there (operand_start AfterRange (front f).0) so (part _ f given)))
+    form (by_next (front f).0 (front f).1 (operand_there (operand_start AfterRange (front f).0) so (part _ f given)))
 
 -- a jump stands there
 abbrev pub IsJump : OperandStart → Type 0
@@ -181,7 +181,7 @@ jump_there first.Written so f = absurd so
 -- the first token of a statement
 abbrev pub begun : {c : Context} {w : Live} {f : node.Statement × Live} → Form production (In Statement c w) f
     → Lexeme × Position
-begun (form (choose l at f)) = (l, at)
+begun (form (by_next l at f)) = (l, at)
 
 -- a jump on the right of `??`
 abbrev pub jump_right : {c : Context} {w : Live} {f : node.Statement × Live}
@@ -189,19 +189,19 @@ abbrev pub jump_right : {c : Context} {w : Live} {f : node.Statement × Live}
     → IsJump (operand_start AfterCoalesce (begun s).0)
     → Form production (In (RightOperand AfterCoalesce) c w) (block_value (made_block f.0))
 jump_right s so =
-    form (choose (begun s).0 (begun s).1 (jump_there (operand_start AfterCoalesce (begun s).0) so (part _ s given)))
+    form (by_next (begun s).0 (begun s).1 (jump_there (operand_start AfterCoalesce (begun s).0) so (part _ s given)))
 
 -- the omitted unit of a range before a `]`
 abbrev pub unit_before : {c : Context} {w : Live} (closing : ℕ)
     → Form production (In (RightOperand AfterRange) c w) (unit (place 1 closing))
 unit_before closing =
-    form (choose (Sign token.RightBracket) (place 1 closing) (
-    here (Sign token.RightBracket) (place 1 closing) given))
+    form (by_next (Sign token.RightBracket) (place 1 closing) (
+    at_next (Sign token.RightBracket) (place 1 closing) given))
 
 -- an operand with the operators after it
 abbrev pub run : {c : Context} {w : Live} {x y : Node} → Form production (In Operand (level_up c) w) x
     → Form production (In (BinaryOp (position_of x) 1 x) (level_up c) w) y → Form production (In Expression c w) y
-run f rest = form (here (front f).0 (front f).1 (must (part _ f (part _ rest given))))
+run f rest = form (at_next (front f).0 (front f).1 (must (part _ f (part _ rest given))))
 
 -- an operand alone, before a token
 abbrev pub alone : {c : Context} {w : Live} {x : Node}

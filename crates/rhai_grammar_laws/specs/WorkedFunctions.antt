@@ -22,9 +22,9 @@ use Rattle.rhai_grammar.specs.declared.role.Construct.TheVariants as kind
 use Rattle.rhai_grammar.specs.declared.role.StatementStart.TheVariants as first
 use Rattle.rhai_grammar.specs.Goals as goal
 use Rattle.rhai_grammar.specs.Goals.{In, Block, Expression, Goal, Inside, Links, Operand, Statement, Val}
-use Rattle.rhai_grammar.specs.Forms.{Filled, Form, adds, apart, captures, choose, form, given, here, if_not}
+use Rattle.rhai_grammar.specs.Forms.{Filled, Form, adds, apart, captures, by_next, form, given, at_next, if_not}
 use Rattle.rhai_grammar.specs.Forms.{checked}
-use Rattle.rhai_grammar.specs.Forms.{if_so, in_text, knows, literal, must, part, take, this}
+use Rattle.rhai_grammar.specs.Forms.{if_so, in_text, knows, literal, must, part, of_kind, any}
 use Rattle.rhai_grammar.specs.Rules as P
 use Rattle.rhai_grammar.specs.Rules.{production}
 use Rattle.rhai_grammar.specs.Productions.{Production}
@@ -45,9 +45,9 @@ construct_there k false so f = absurd so
 abbrev pub two_names : (opening : ℕ) (name : Text) (column comma : ℕ) (counter : Text) (at closing in_at : ℕ)
     → Form production goal.LoopNames (name, Some counter)
 two_names opening name column comma counter at closing in_at =
-    form (if_so (this (Sign token.LeftParen) (place 1 opening) (take (Name name) (place 1 column) (
-    take (Sign token.Comma) (place 1 comma) (take (Name counter) (place 1 at) (must (
-    take (Sign token.RightParen) (place 1 closing) (take (Sign token.In) (place 1 in_at) given))))))))
+    form (if_so (any (Sign token.LeftParen) (place 1 opening) (of_kind (Name name) (place 1 column) (
+    of_kind (Sign token.Comma) (place 1 comma) (of_kind (Name counter) (place 1 at) (must (
+    of_kind (Sign token.RightParen) (place 1 closing) (of_kind (Sign token.In) (place 1 in_at) given))))))))
 
 -- a `for` loop, where loops are allowed
 abbrev pub for_each : {c : Context} {w : Live} {names : Text × Option Text} {x : Node} {b : node.Block} (at : ℕ)
@@ -56,8 +56,8 @@ abbrev pub for_each : {c : Context} {w : Live} {names : Text × Option Text} {x 
     → Form production (goal.In (goal.Braced (place 1 at)) (loop_body (level_up (level_up c))) (loop_live names.0 names.1 w)) b
     → Form production (In Statement c w) (for_statement names.0 names.1 x b (place 1 at), w)
 for_each {c} at so names over body =
-    form (choose (Sign token.For) (place 1 at) (construct_there kind.For (may_stand c kind.For) so (
-    this (Sign token.For) (place 1 at) (must (must (part _ (form (part _ names (
+    form (by_next (Sign token.For) (place 1 at) (construct_there kind.For (may_stand c kind.For) so (
+    any (Sign token.For) (place 1 at) (must (must (part _ (form (part _ names (
     part _ (form (if_not (part _ over (checked given)))) (part _ body given)))) given))))))
 
 -- ---- `switch`
@@ -68,8 +68,8 @@ abbrev pub switch : {c : Context} {w : Live} {x : Node} {all : Collected} (at : 
     → Form production (goal.In (goal.Arms nothing_collected) (level_up (level_up c)) w) all
     → Form production (In Statement c w) (switch_tree x all (place 1 at), w)
 switch at f opening arms =
-    form (choose (Sign token.Switch) (place 1 at) (this (Sign token.Switch) (place 1 at) (must (must (part _ (form (
-    part _ f (take (Sign token.LeftBrace) (place 1 opening) (part _ arms given)))) given)))))
+    form (by_next (Sign token.Switch) (place 1 at) (any (Sign token.Switch) (place 1 at) (must (must (part _ (form (
+    part _ f (of_kind (Sign token.LeftBrace) (place 1 opening) (part _ arms given)))) given)))))
 
 -- an arm with cases begins there
 abbrev pub IsCase : ArmRole → Type 0
@@ -105,10 +105,10 @@ does {c} so f = form (action_as (has_single_blocks c) so (if_not (part _ f given
 
 -- a comma after an arm; and the `}`, which is not taken
 abbrev pub comma_after : {itself : Bool} (column : ℕ) → Form production (goal.ArmEnd itself) tt
-comma_after column = form (choose (Sign token.Comma) (place 1 column) (this (Sign token.Comma) (place 1 column) given))
+comma_after column = form (by_next (Sign token.Comma) (place 1 column) (any (Sign token.Comma) (place 1 column) given))
 
 abbrev pub brace_after : {itself : Bool} (column : ℕ) → Form production (goal.ArmEnd itself) tt
-brace_after column = form (choose (Sign token.RightBrace) (place 1 column) given)
+brace_after column = form (by_next (Sign token.RightBrace) (place 1 column) given)
 
 -- an arm with one case and without a guard, and the arms after it
 abbrev pub arm_then : {c : Context} {w : Live} {before all : Collected} {x : Node} {a : Node × Bool}
@@ -117,31 +117,31 @@ abbrev pub arm_then : {c : Context} {w : Live} {before all : Collected} {x : Nod
     → Form production (goal.In (goal.Arms (with_arm_collected before (with_node node.no_nodes x) no_guard a.0)) c w) all
     → Form production (goal.In (goal.Arms before) c w) all
 arm_then f so arrow action end rest =
-    form (choose (start f).0 (start f).1 (case_there (arm_role (start f).0) so (part _ (form (part _ (cased f) (
-    part _ (form (if_not given)) (take (Sign token.DoubleArrow) (place 1 arrow) (
+    form (by_next (start f).0 (start f).1 (case_there (arm_role (start f).0) so (part _ (form (part _ (cased f) (
+    part _ (form (if_not given)) (of_kind (Sign token.DoubleArrow) (place 1 arrow) (
     part _ action (checked (part _ end given))))))) (part _ rest given))))
 
 -- no further arm, but the `}`
 abbrev pub no_arm : {c : Context} {w : Live} {before : Collected} (closing : ℕ)
     → Form production (goal.In (goal.Arms before) c w) before
 no_arm closing =
-    form (choose (Sign token.RightBrace) (place 1 closing) (this (Sign token.RightBrace) (place 1 closing) given))
+    form (by_next (Sign token.RightBrace) (place 1 closing) (any (Sign token.RightBrace) (place 1 closing) given))
 
 -- ---- functions
 
 -- an empty pair
 abbrev pub no_parameters : {function : Text} (column : ℕ) → Form production (goal.ParameterList function) []
 no_parameters column =
-    form (choose (Sign token.Unit) (place 1 column) (this (Sign token.Unit) (place 1 column) given))
+    form (by_next (Sign token.Unit) (place 1 column) (any (Sign token.Unit) (place 1 column) given))
 
 -- one parameter in parentheses
 abbrev pub one_parameter : {function : Text} (opening : ℕ) (name : Text) (column closing : ℕ)
     → Form production (goal.ParameterList function) (name ∷ [])
 one_parameter opening name column closing =
-    form (choose (Sign token.LeftParen) (place 1 opening) (this (Sign token.LeftParen) (place 1 opening) (part _ (form (
-    choose (Name name) (place 1 column) (this (Name name) (place 1 column) (must (
-    choose (Sign token.RightParen) (place 1 closing) (
-    this (Sign token.RightParen) (place 1 closing) given)))))) given)))
+    form (by_next (Sign token.LeftParen) (place 1 opening) (any (Sign token.LeftParen) (place 1 opening) (part _ (form (
+    by_next (Name name) (place 1 column) (any (Name name) (place 1 column) (must (
+    by_next (Sign token.RightParen) (place 1 closing) (
+    any (Sign token.RightParen) (place 1 closing) given)))))) given)))
 
 -- the name of a function, its parameters, and the block of its body
 abbrev pub headed : {c : Context} {comments : List Comment} {at : Position} {is_private : Bool} {names : List Text}
@@ -149,8 +149,8 @@ abbrev pub headed : {c : Context} {comments : List Comment} {at : Position} {is_
     → Form production (In (Block (place 1 opening)) (level_up c) (parameters_live names)) b
     → Form production (goal.Function c comments at is_private) (ended_function comments is_private None name names b)
 headed name column names opening body =
-    form (part _ (form (take (Name name) (place 1 column) (if_not (must given)))) (
-    part _ names (if_so (this (Sign token.LeftBrace) (place 1 opening) (must (part _ body given))))))
+    form (part _ (form (of_kind (Name name) (place 1 column) (if_not (must given)))) (
+    part _ names (if_so (any (Sign token.LeftBrace) (place 1 opening) (must (part _ body given))))))
 
 -- a function after its `fn`
 abbrev pub function : {c : Context} {w : Live} {comments : List Comment} {at first : Position} {is_private : Bool}
@@ -162,16 +162,16 @@ function f = form (must (knows (must (part _ f (knows (adds given))))))
 abbrev pub declares : {c : Context} {w : Live} {f : node.Statement × Live} (at : ℕ)
     → Form production (goal.In (goal.FunctionStatement [] (place 1 at) (place 1 at) false) c w) f
     → Form production (In Statement c w) f
-declares at f = form (choose (Sign token.Fn) (place 1 at) (this (Sign token.Fn) (place 1 at) (part _ f given)))
+declares at f = form (by_next (Sign token.Fn) (place 1 at) (any (Sign token.Fn) (place 1 at) (part _ f given)))
 
 -- a doc comment, and the function after it
 abbrev pub documented : {c : Context} {w : Live} {f : node.Statement × Live} (text : Text) (column at : ℕ)
     → Form production (goal.In (goal.FunctionStatement (record { text = text; at = place 1 column } ∷ []) (place 1 at) (place 1 at) false) c w) f
     → Form production (In Statement c w) f
 documented text column at f =
-    form (choose (lexeme.Comment text) (place 1 column) (this (lexeme.Comment text) (place 1 column) (must (
-    part _ (form (if_not given)) (choose (Sign token.Fn) (place 1 at) (
-    this (Sign token.Fn) (place 1 at) (part _ f given)))))))
+    form (by_next (lexeme.Comment text) (place 1 column) (any (lexeme.Comment text) (place 1 column) (must (
+    part _ (form (if_not given)) (by_next (Sign token.Fn) (place 1 at) (
+    any (Sign token.Fn) (place 1 at) (part _ f given)))))))
 
 -- ---- interpolated strings
 
@@ -180,8 +180,8 @@ abbrev pub interpolated : {c : Context} {w : Live} {o : Option (ℕ × Bool)} {n
     → Form production (goal.In (goal.Segments (place 1 column) (added_text node.no_nodes text (place 1 column))) (level_up c) w) ns
     → After c.filter o → Form production (In Operand c w) (node.interpolated ns (place 1 column))
 interpolated text column segments t =
-    form (choose (lexeme.Interpolated text) (place 1 column) (linked (form (
-    choose (lexeme.Interpolated text) (place 1 column) (this (lexeme.Interpolated text) (place 1 column) (
+    form (by_next (lexeme.Interpolated text) (place 1 column) (linked (form (
+    by_next (lexeme.Interpolated text) (place 1 column) (any (lexeme.Interpolated text) (place 1 column) (
     must (part _ segments given))))) (unlinked t)))
 
 -- a block of an interpolated string, and the last text after it
@@ -190,7 +190,7 @@ abbrev pub last_segment : {c : Context} {w : Live} {start : Position} {before : 
     → Form production (goal.In (goal.Segments start before) c w)
     (added_text (with_node before (block_value (braces fs (place 1 opening) (place 1 closing)))) text (place 1 column))
 last_segment opening f closing text column =
-    form (part _ (form (take (Sign token.LeftBrace) (place 1 opening) given)) (must (part _ f (
+    form (part _ (form (of_kind (Sign token.LeftBrace) (place 1 opening) given)) (must (part _ f (
     part _ (form (in_text (place 1 closing) (lexeme.String text) (place 1 column) given)) given))))
 
 -- ---- closures
@@ -215,7 +215,7 @@ doing f = form (if_not (part _ f given))
 
 abbrev pub doing_nothing : {c : Context} {w : Live} (end : ℕ)
     → Form production (goal.In goal.ClosureBody c w) (noop (place 1 end))
-doing_nothing end = form (if_so (here (Sign token.EOF) (place 1 end) given))
+doing_nothing end = form (if_so (at_next (Sign token.EOF) (place 1 end) given))
 
 -- a closure without parameters, where closures are operands, and its links
 abbrev pub bars_then : {c : Context} {w : Live} {f : node.Statement} {ls : List Link} (at : ℕ)
@@ -224,8 +224,8 @@ abbrev pub bars_then : {c : Context} {w : Live} {f : node.Statement} {ls : List 
     → Form production (Links w (spot_after_operand c (closure_node (place 1 at) n us [] w))) ls
     → Form production (In Operand c w) (chained (closure_node (place 1 at) n us [] w) ls)
 bars_then {c} at so us n f links =
-    form (choose (Sign token.Or) (place 1 at) (linked (form (choose (Sign token.Or) (place 1 at) (
-    holds _ (may_be_closure c bars.Pair) so (this (Sign token.Or) (place 1 at) (
+    form (by_next (Sign token.Or) (place 1 at) (linked (form (by_next (Sign token.Or) (place 1 at) (
+    holds _ (may_be_closure c bars.Pair) so (any (Sign token.Or) (place 1 at) (
     part _ (form (knows (ended_by [] us n f))) given))))) links))
 
 -- the same with one parameter
@@ -235,10 +235,10 @@ abbrev pub parameter_then : {c : Context} {w : Live} {f : node.Statement} {ls : 
     → Form production (Links w (spot_after_operand c (closure_node (place 1 at) n us (name ∷ []) w))) ls
     → Form production (In Operand c w) (chained (closure_node (place 1 at) n us (name ∷ []) w) ls)
 parameter_then {c} at name column closing so us n f links =
-    form (choose (Sign token.Pipe) (place 1 at) (linked (form (choose (Sign token.Pipe) (place 1 at) (
-    holds _ (may_be_closure c bars.List) so (this (Sign token.Pipe) (place 1 at) (part _ (form (knows (part _ (form (
-    choose (Name name) (place 1 column) (this (Name name) (place 1 column) (must (
-    choose (Sign token.Pipe) (place 1 closing) (this (Sign token.Pipe) (place 1 closing) given)))))) (
+    form (by_next (Sign token.Pipe) (place 1 at) (linked (form (by_next (Sign token.Pipe) (place 1 at) (
+    holds _ (may_be_closure c bars.List) so (any (Sign token.Pipe) (place 1 at) (part _ (form (knows (part _ (form (
+    by_next (Name name) (place 1 column) (any (Name name) (place 1 column) (must (
+    by_next (Sign token.Pipe) (place 1 closing) (any (Sign token.Pipe) (place 1 closing) given)))))) (
     ended_by (name ∷ []) us n f)))) given))))) links))
 
 -- a closure alone, without links, before a token

@@ -11,7 +11,7 @@ use Rattle.rhai_grammar.specs.declared.role.ItemRole.{ItemRole}
 use Rattle.rhai_grammar.specs.declared.role.ItemRole.TheVariants as item
 use Rattle.rhai_grammar.specs.Goals as goal
 use Rattle.rhai_grammar.specs.Goals.{In, Expression, Links, Operand}
-use Rattle.rhai_grammar.specs.Forms.{Filled, Form, choose, form, given, if_not, if_so, must, part, take, this}
+use Rattle.rhai_grammar.specs.Forms.{Filled, Form, by_next, form, given, if_not, if_so, must, part, of_kind, any}
 use Rattle.rhai_grammar.specs.Forms.{checked}
 use Rattle.rhai_grammar.specs.Rules as P
 use Rattle.rhai_grammar.specs.Rules.{production}
@@ -26,8 +26,8 @@ abbrev pub bracket : {w : Live} {spot : LinkSpot} {x : Node} {ls : List Link} (o
     → Form production (Links w (spot_after_bracket spot (bracket_link (Sign token.LeftBracket) (place 1 opening) x))) ls
     → Form production (Links w spot) ls
 bracket opening f closing links =
-    form (choose (Sign token.LeftBracket) (place 1 opening) (this (Sign token.LeftBracket) (place 1 opening) (
-    must (must (part _ (form (part _ f (checked (take (Sign token.RightBracket) (place 1 closing) given)))) (
+    form (by_next (Sign token.LeftBracket) (place 1 opening) (any (Sign token.LeftBracket) (place 1 opening) (
+    must (must (part _ (form (part _ f (checked (of_kind (Sign token.RightBracket) (place 1 closing) given)))) (
     part _ links given))))))
 
 -- the same after `?[`
@@ -37,8 +37,8 @@ abbrev pub question_bracket : {w : Live} {spot : LinkSpot} {x : Node} {ls : List
     (bracket_link (Sign token.QuestionBracket) (place 1 opening) x))) ls
     → Form production (Links w spot) ls
 question_bracket opening f closing links =
-    form (choose (Sign token.QuestionBracket) (place 1 opening) (this (Sign token.QuestionBracket) (place 1 opening) (
-    must (must (part _ (form (part _ f (checked (take (Sign token.RightBracket) (place 1 closing) given)))) (
+    form (by_next (Sign token.QuestionBracket) (place 1 opening) (any (Sign token.QuestionBracket) (place 1 opening) (
+    must (must (part _ (form (part _ f (checked (of_kind (Sign token.RightBracket) (place 1 closing) given)))) (
     part _ links given))))))
 
 -- a property after a dot, and the links after it
@@ -47,8 +47,8 @@ abbrev pub dotted : {w : Live} {spot : LinkSpot} {ls : List Link} (dot : ℕ) (n
     (property name (place 1 column))))) ls
     → Form production (Links w spot) ls
 dotted dot name column links =
-    form (choose (Sign token.Period) (place 1 dot) (this (Sign token.Period) (place 1 dot) (
-    choose (Name name) (place 1 column) (must (part _ (form (this (Name name) (place 1 column) (
+    form (by_next (Sign token.Period) (place 1 dot) (any (Sign token.Period) (place 1 dot) (
+    by_next (Name name) (place 1 column) (must (part _ (form (any (Name name) (place 1 column) (
     if_not (if_not given)))) (part _ links given))))))
 
 -- ---- lists
@@ -57,17 +57,17 @@ dotted dot name column links =
 abbrev pub last_argument : {c : Context} {w : Live} {before : Nodes} {x : Node} → Form production (In Expression c w) x
     → (closing : ℕ) → Form production (goal.In (goal.Items before) c w) (with_node before x)
 last_argument f closing =
-    form (part _ f (choose (Sign token.RightParen) (place 1 closing) (
-    this (Sign token.RightParen) (place 1 closing) given)))
+    form (part _ f (by_next (Sign token.RightParen) (place 1 closing) (
+    any (Sign token.RightParen) (place 1 closing) given)))
 
 -- a name that is called with arguments in parentheses
 abbrev pub called : {c : Context} {w : Live} {o : Option (ℕ × Bool)} {ns : Nodes} (name : Text) (column opening : ℕ)
     → Form production (goal.In (goal.Items node.no_nodes) (level_up c) w) ns → After c.filter o
     → Form production (In Operand c w) (call_tree (name_tree w.slots true name (place 1 column)) false ns)
 called name column opening items t =
-    form (choose (Name name) (place 1 column) (part _ (name_before name column (Sign token.LeftParen) opening) (
-    part _ (form (if_not (if_so (part _ (form (choose (Sign token.LeftParen) (place 1 opening) (
-    this (Sign token.LeftParen) (place 1 opening) (
+    form (by_next (Name name) (place 1 column) (part _ (name_before name column (Sign token.LeftParen) opening) (
+    part _ (form (if_not (if_so (part _ (form (by_next (Sign token.LeftParen) (place 1 opening) (
+    any (Sign token.LeftParen) (place 1 opening) (
     part _ (form (if_not (if_not (must (part _ items given))))) given)))) (
     checked given))))) (part _ (unlinked t) (checked given)))))
 
@@ -77,10 +77,10 @@ abbrev pub path_called : {c : Context} {w : Live} {o : Option (ℕ × Bool)} (ro
     → Form production (In Operand c w) (call_tree (qualified w.imports (name_tree w.slots true root (place 1 column)) name
     (place 1 at)) false node.no_nodes)
 path_called root column colons name at pair t =
-    form (choose (Name root) (place 1 column) (part _ (name_before root column (Sign token.DoubleColon) colons) (
-    part _ (form (if_so (part _ (form (this (Sign token.DoubleColon) (place 1 colons) (
-    take (Name name) (place 1 at) (if_not given)))) (if_so (part _ (form (choose (Sign token.Unit) (place 1 pair) (
-    this (Sign token.Unit) (place 1 pair) given))) (checked given)))))) (part _ (unlinked t) (checked given)))))
+    form (by_next (Name root) (place 1 column) (part _ (name_before root column (Sign token.DoubleColon) colons) (
+    part _ (form (if_so (part _ (form (any (Sign token.DoubleColon) (place 1 colons) (
+    of_kind (Name name) (place 1 at) (if_not given)))) (if_so (part _ (form (by_next (Sign token.Unit) (place 1 pair) (
+    any (Sign token.Unit) (place 1 pair) given))) (checked given)))))) (part _ (unlinked t) (checked given)))))
 
 -- an item of an array begins there
 abbrev pub IsItem : ItemRole → Type 0
@@ -101,15 +101,15 @@ abbrev pub last_element : {c : Context} {w : Live} {at : Position} {before : Nod
     → IsItem (item_role c.sizes.array (node_count before) (start f).0) → (closing : ℕ)
     → Form production (goal.In (goal.Elements at before) c w) (with_node before x)
 last_element {c} {before = before} f so closing =
-    form (choose (start f).0 (start f).1 (item_there (item_role c.sizes.array (node_count before) (start f).0) so (
-    must (part _ f (choose (Sign token.RightBracket) (place 1 closing) (
-    this (Sign token.RightBracket) (place 1 closing) given))))))
+    form (by_next (start f).0 (start f).1 (item_there (item_role c.sizes.array (node_count before) (start f).0) so (
+    must (part _ f (by_next (Sign token.RightBracket) (place 1 closing) (
+    any (Sign token.RightBracket) (place 1 closing) given))))))
 
 -- an array
 abbrev pub listed : {c : Context} {w : Live} {o : Option (ℕ × Bool)} {ns : Nodes} (opening : ℕ)
     → Form production (goal.In (goal.Elements (place 1 opening) node.no_nodes) (level_up c) w) ns → After c.filter o
     → Form production (In Operand c w) (array ns (place 1 opening))
 listed opening items t =
-    form (choose (Sign token.LeftBracket) (place 1 opening) (linked (form (
-    choose (Sign token.LeftBracket) (place 1 opening) (this (Sign token.LeftBracket) (place 1 opening) (
+    form (by_next (Sign token.LeftBracket) (place 1 opening) (linked (form (
+    by_next (Sign token.LeftBracket) (place 1 opening) (any (Sign token.LeftBracket) (place 1 opening) (
     must (part _ items given))))) (unlinked t)))

@@ -18,9 +18,9 @@ use Rattle.rhai_grammar.specs.declared.role.StatementStart.{StatementStart}
 use Rattle.rhai_grammar.specs.declared.role.StatementStart.TheVariants as first
 use Rattle.rhai_grammar.specs.Goals as goal
 use Rattle.rhai_grammar.specs.Goals.{In, Block, ExprStatement, Expression, Inside, Operand, Statement, Statements}
-use Rattle.rhai_grammar.specs.Forms.{Form, Open, FilledIn, apart_here, choose, form, given, here, if_not, if_so}
+use Rattle.rhai_grammar.specs.Forms.{Form, Open, FilledIn, apart_here, by_next, form, given, at_next, if_not, if_so}
 use Rattle.rhai_grammar.specs.Forms.{checked_here}
-use Rattle.rhai_grammar.specs.Forms.{knows, knows_here, must, must_here, open_form, part, part_here, take, this}
+use Rattle.rhai_grammar.specs.Forms.{knows, knows_here, must, must_here, open_form, part, part_here, of_kind, any}
 use Rattle.rhai_grammar.specs.Rules as P
 use Rattle.rhai_grammar.specs.Rules.{production}
 use Rattle.rhai_grammar_laws.specs.WorkedForms.{begun}
@@ -32,7 +32,7 @@ use Rattle.rhai_grammar_laws.specs.WorkedStatements.{IsExpression, IsStatement}
 
 -- the first token of a statement that is open
 abbrev pub open_begun : {c : Context} {w : Live} → Open production (In Statement c w) → Lexeme × Position
-open_begun (open_form (choose l at f)) = (l, at)
+open_begun (open_form (by_next l at f)) = (l, at)
 
 -- where a statement of a list begins
 abbrev statement_there : {closing : Closing} {c : Context} {w : Live} {before : node.Statements} (role : StatementRole)
@@ -48,7 +48,7 @@ abbrev pub open_first : {closing : Closing} {c : Context} {w : Live} {before : n
     (s : Open production (In Statement c w)) → IsStatement (statement_role closing (open_begun s).0)
     → Open production (In (Statements closing before) c w)
 open_first {closing} s so =
-    open_form (choose (open_begun s).0 (open_begun s).1 (
+    open_form (by_next (open_begun s).0 (open_begun s).1 (
     statement_there (statement_role closing (open_begun s).0) so (part_here s)))
 
 -- a statement of a list that is open after it
@@ -59,7 +59,7 @@ abbrev pub open_next : {closing : Closing} {c : Context} {w : Live} {before : no
     (ends_itself f.0)) None
     → Open production (In (Statements closing before) c w)
 open_next {closing} s so rest =
-    open_form (choose (begun s).0 (begun s).1 (
+    open_form (by_next (begun s).0 (begun s).1 (
     statement_there (statement_role closing (begun s).0) so (part _ s rest)))
 
 -- a semicolon, and the statements after it, which are open
@@ -67,9 +67,9 @@ abbrev pub open_semicolon : {closing : Closing} {c : Context} {w v : Live} {befo
     → Open production (In (Statements closing fs) c v)
     → FilledIn production (In (Statements closing before) c w) (P.after_one closing c v fs false) None
 open_semicolon {closing = Brace} column rest =
-    choose (Sign token.SemiColon) (place 1 column) (this (Sign token.SemiColon) (place 1 column) (part_here rest))
+    by_next (Sign token.SemiColon) (place 1 column) (any (Sign token.SemiColon) (place 1 column) (part_here rest))
 open_semicolon {closing = EndMark} column rest =
-    choose (Sign token.SemiColon) (place 1 column) (this (Sign token.SemiColon) (place 1 column) (part_here rest))
+    by_next (Sign token.SemiColon) (place 1 column) (any (Sign token.SemiColon) (place 1 column) (part_here rest))
 
 -- the statements after one that ends by itself, which are open
 abbrev pub open_followed : {closing : Closing} {c : Context} {w v : Live} {before fs : node.Statements}
@@ -102,8 +102,8 @@ expression_there first.Comment so f = absurd so
 abbrev pub open_evaluates : {c : Context} {w : Live} (l : Lexeme) (column : ℕ) → IsExpression (statement_start c l)
     → Open production (In ExprStatement (level_up c) w) → Open production (In Statement c w)
 open_evaluates {c} l column so f =
-    open_form (choose l (place 1 column) (expression_there (statement_start c l) so (
-    here l (place 1 column) (must (part_here f)))))
+    open_form (by_next l (place 1 column) (expression_there (statement_start c l) so (
+    at_next l (place 1 column) (must (part_here f)))))
 
 -- an expression that is open, as a statement
 abbrev pub open_single : {c : Context} {w : Live} → Open production (In Expression c w)
@@ -114,22 +114,22 @@ open_single f = open_form (part_here f)
 abbrev pub refused_assignment : {c : Context} {w : Live} {x y : Node} → Form production (In Expression c w) x
     → (equals : ℕ) → Form production (In Expression c w) y → Open production (In ExprStatement c w)
 refused_assignment f equals g =
-    open_form (part _ f (if_so (this (Sign token.Equals) (place 1 equals) (part _ g checked_here))))
+    open_form (part _ f (if_so (any (Sign token.Equals) (place 1 equals) (part _ g checked_here))))
 
 -- a definition whose value is one level too deep, which is refused at the `let`; and one whose value is open
 abbrev pub deep_let : {c : Context} {w : Live} (at : ℕ) (name : Text) (column equals : ℕ)
     → Open production (In Statement c w)
 deep_let at name column equals =
-    open_form (choose (Sign token.Let) (place 1 at) (this (Sign token.Let) (place 1 at) (must (
-    open_part (part _ (form (if_so (this (Name name) (place 1 column) (must given)))) (
-    open_part (if_so (this (Sign token.Equals) (place 1 equals) must_here))))))))
+    open_form (by_next (Sign token.Let) (place 1 at) (any (Sign token.Let) (place 1 at) (must (
+    open_part (part _ (form (if_so (any (Name name) (place 1 column) (must given)))) (
+    open_part (if_so (any (Sign token.Equals) (place 1 equals) must_here))))))))
 
 abbrev pub open_let : {c : Context} {w : Live} (at : ℕ) (name : Text) (column equals : ℕ)
     → Open production (In Expression (level_up (level_up c)) w) → Open production (In Statement c w)
 open_let at name column equals f =
-    open_form (choose (Sign token.Let) (place 1 at) (this (Sign token.Let) (place 1 at) (must (
-    open_part (part _ (form (if_so (this (Name name) (place 1 column) (must given)))) (
-    open_part (if_so (this (Sign token.Equals) (place 1 equals) (must (part_here f))))))))))
+    open_form (by_next (Sign token.Let) (place 1 at) (any (Sign token.Let) (place 1 at) (must (
+    open_part (part _ (form (if_so (any (Name name) (place 1 column) (must given)))) (
+    open_part (if_so (any (Sign token.Equals) (place 1 equals) (must (part_here f))))))))))
 
 -- a jump whose value is too deep, or open
 abbrev pub deep_jump : {c : Context} {w : Live} {at : Position} → Open production (goal.In (goal.Jump at) c w)
@@ -143,7 +143,7 @@ open_jump f = open_form (if_so (must (part_here f)))
 abbrev pub open_return : {c : Context} {w : Live} (at : ℕ) → Open production (goal.In (goal.Jump (place 1 at)) c w)
     → Open production (In Statement c w)
 open_return at f =
-    open_form (choose (Sign token.Return) (place 1 at) (this (Sign token.Return) (place 1 at) (part_here f)))
+    open_form (by_next (Sign token.Return) (place 1 at) (any (Sign token.Return) (place 1 at) (part_here f)))
 
 -- ---- blocks
 
@@ -164,7 +164,7 @@ open_many {c} so f = open_form (open_part (inside_as (has_single_blocks c) so (p
 abbrev pub open_block_at : {c : Context} {w : Live} (at : ℕ)
     → Open production (In (Block (place 1 at)) (level_up (level_up c)) w) → Open production (In Statement c w)
 open_block_at at f =
-    open_form (choose (Sign token.LeftBrace) (place 1 at) (this (Sign token.LeftBrace) (place 1 at) (must (must (
+    open_form (by_next (Sign token.LeftBrace) (place 1 at) (any (Sign token.LeftBrace) (place 1 at) (must (must (
     open_part (part_here f))))))
 
 -- ---- `switch`
@@ -174,8 +174,8 @@ abbrev pub open_switch : {c : Context} {w : Live} {x : Node} (at : ℕ)
     → Form production (In Expression (level_up (level_up c)) w) x → (opening : ℕ)
     → Open production (goal.In (goal.Arms nothing_collected) (level_up (level_up c)) w) → Open production (In Statement c w)
 open_switch at f opening arms =
-    open_form (choose (Sign token.Switch) (place 1 at) (this (Sign token.Switch) (place 1 at) (must (must (open_part (
-    part _ f (take (Sign token.LeftBrace) (place 1 opening) (part_here arms))))))))
+    open_form (by_next (Sign token.Switch) (place 1 at) (any (Sign token.Switch) (place 1 at) (must (must (open_part (
+    part _ f (of_kind (Sign token.LeftBrace) (place 1 opening) (part_here arms))))))))
 
 -- ---- functions and closures
 
@@ -185,8 +185,8 @@ abbrev pub open_function : {c : Context} {w : Live} {comments : List Comment} {a
     → Open production (In (Block (place 1 opening)) (level_up (level_up (in_function c w))) (parameters_live names))
     → Open production (goal.In (goal.FunctionStatement comments first at is_private) c w)
 open_function name column names opening body =
-    open_form (must (knows (must (open_part (part _ (form (take (Name name) (place 1 column) (if_not (must given)))) (
-    part _ names (if_so (this (Sign token.LeftBrace) (place 1 opening) (must (part_here body))))))))))
+    open_form (must (knows (must (open_part (part _ (form (of_kind (Name name) (place 1 column) (if_not (must given)))) (
+    part _ names (if_so (any (Sign token.LeftBrace) (place 1 opening) (must (part_here body))))))))))
 
 -- a function that is refused after its body
 abbrev pub refused_function : {c : Context} {w : Live} {comments : List Comment} {at first : Position}
@@ -200,7 +200,7 @@ abbrev pub open_declares : {c : Context} {w : Live} (at : ℕ)
     → Open production (goal.In (goal.FunctionStatement [] (place 1 at) (place 1 at) false) c w)
     → Open production (In Statement c w)
 open_declares at f =
-    open_form (choose (Sign token.Fn) (place 1 at) (this (Sign token.Fn) (place 1 at) (part_here f)))
+    open_form (by_next (Sign token.Fn) (place 1 at) (any (Sign token.Fn) (place 1 at) (part_here f)))
 
 -- a closure for which there is no room
 abbrev pub no_room : {c : Context} {w : Live} {at : Position} {by : Bars} → Open production (goal.In (goal.Closure at by) c w)
@@ -211,22 +211,22 @@ abbrev pub open_bars : {c : Context} {w : Live} (at : ℕ) → Holds (may_be_clo
     → Open production (goal.In (goal.Closure (place 1 at) bars.Pair) c w)
     → FilledIn production (In Operand c w) (production (In Operand c w)) None
 open_bars {c} at so f =
-    choose (Sign token.Or) (place 1 at) (open_part (choose (Sign token.Or) (place 1 at) (
-    holds_open _ (may_be_closure c bars.Pair) so (this (Sign token.Or) (place 1 at) (part_here f)))))
+    by_next (Sign token.Or) (place 1 at) (open_part (by_next (Sign token.Or) (place 1 at) (
+    holds_open _ (may_be_closure c bars.Pair) so (any (Sign token.Or) (place 1 at) (part_here f)))))
 
 -- the same with parameters
 abbrev pub open_pipe : {c : Context} {w : Live} (at : ℕ) → Holds (may_be_closure c bars.List)
     → Open production (goal.In (goal.Closure (place 1 at) bars.List) c w)
     → FilledIn production (In Operand c w) (production (In Operand c w)) None
 open_pipe {c} at so f =
-    choose (Sign token.Pipe) (place 1 at) (open_part (choose (Sign token.Pipe) (place 1 at) (
-    holds_open _ (may_be_closure c bars.List) so (this (Sign token.Pipe) (place 1 at) (part_here f)))))
+    by_next (Sign token.Pipe) (place 1 at) (open_part (by_next (Sign token.Pipe) (place 1 at) (
+    holds_open _ (may_be_closure c bars.List) so (any (Sign token.Pipe) (place 1 at) (part_here f)))))
 
 -- a closure with one parameter, whose statement is open
 abbrev pub open_doing : {c : Context} {w : Live} {at : Position} (name : Text) (column closing : ℕ)
     → Open production (In Statement (level_up (in_closure c w)) (parameters_live (name ∷ [])))
     → Open production (goal.In (goal.Closure at bars.List) c w)
 open_doing name column closing s =
-    open_form (knows (part _ (form (choose (Name name) (place 1 column) (this (Name name) (place 1 column) (must (
-    choose (Sign token.Pipe) (place 1 closing) (this (Sign token.Pipe) (place 1 closing) given)))))) (must (
+    open_form (knows (part _ (form (by_next (Name name) (place 1 column) (any (Name name) (place 1 column) (must (
+    by_next (Sign token.Pipe) (place 1 closing) (any (Sign token.Pipe) (place 1 closing) given)))))) (must (
     apart_here (open_form (if_not (part_here s)))))))

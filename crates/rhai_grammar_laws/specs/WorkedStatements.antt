@@ -19,8 +19,8 @@ use Rattle.rhai_grammar.specs.declared.role.StatementStart.{StatementStart}
 use Rattle.rhai_grammar.specs.declared.role.StatementStart.TheVariants as first
 use Rattle.rhai_grammar.specs.Goals as goal
 use Rattle.rhai_grammar.specs.Goals.{In, Block, ExprStatement, Expression, Inside, Operand, Script, Statement, Statements}
-use Rattle.rhai_grammar.specs.Forms.{Filled, Form, choose, form, given, here, if_not, if_so, must, part, take}
-use Rattle.rhai_grammar.specs.Forms.{this}
+use Rattle.rhai_grammar.specs.Forms.{Filled, Form, by_next, form, given, at_next, if_not, if_so, must, part, of_kind}
+use Rattle.rhai_grammar.specs.Forms.{any}
 use Rattle.rhai_grammar.specs.Promises.{Written}
 use Rattle.rhai_grammar.specs.Rules as P
 use Rattle.rhai_grammar.specs.Rules.{production}
@@ -63,8 +63,8 @@ single f = form (part _ f (if_not given))
 abbrev pub evaluates : {c : Context} {w : Live} {x : Node} (f : Form production (In Expression (level_up c) w) x)
     → IsExpression (statement_start c (start f).0) → Form production (In Statement c w) (expression x, w)
 evaluates {c} f so =
-    form (choose (start f).0 (start f).1 (expression_there (statement_start c (start f).0) so (
-    here (start f).0 (start f).1 (must (part _ (single f) given)))))
+    form (by_next (start f).0 (start f).1 (expression_there (statement_start c (start f).0) so (
+    at_next (start f).0 (start f).1 (must (part _ (single f) given)))))
 
 -- a name with a value, after `let` or `const`
 abbrev pub valued : {c : Context} {w : Live} {at : Position} {constant exported : Bool} {x : Node} (name : Text)
@@ -72,54 +72,54 @@ abbrev pub valued : {c : Context} {w : Live} {at : Position} {constant exported 
     → Form production (goal.In (goal.Definition at constant exported) c w)
     (definition_tree constant exported at name x w, defined_as exported name constant w)
 valued name column equals f =
-    form (part _ (form (if_so (this (Name name) (place 1 column) (must given)))) (
-    part _ (form (if_so (this (Sign token.Equals) (place 1 equals) (must (part _ f given))))) given))
+    form (part _ (form (if_so (any (Name name) (place 1 column) (must given)))) (
+    part _ (form (if_so (any (Sign token.Equals) (place 1 equals) (must (part _ f given))))) given))
 
 -- a name without a value
 abbrev pub bare : {c : Context} {w : Live} {at : Position} {constant exported : Bool} (name : Text) (column : ℕ)
     → Form production (goal.In (goal.Definition at constant exported) c w)
     (definition_tree constant exported at name (unit nowhere) w, defined_as exported name constant w)
 bare name column =
-    form (part _ (form (if_so (this (Name name) (place 1 column) (must given)))) (part _ (form (if_not given)) given))
+    form (part _ (form (if_so (any (Name name) (place 1 column) (must given)))) (part _ (form (if_not given)) given))
 
 -- a definition of a variable, and one of a constant
 abbrev pub lets : {c : Context} {w : Live} {f : node.Statement × Live} (at : ℕ)
     → Form production (goal.In (goal.Definition (place 1 at) false false) (level_up c) w) f
     → Form production (In Statement c w) f
 lets at f =
-    form (choose (Sign token.Let) (place 1 at) (this (Sign token.Let) (place 1 at) (must (part _ f given))))
+    form (by_next (Sign token.Let) (place 1 at) (any (Sign token.Let) (place 1 at) (must (part _ f given))))
 
 abbrev pub constant : {c : Context} {w : Live} {f : node.Statement × Live} (at : ℕ)
     → Form production (goal.In (goal.Definition (place 1 at) true false) (level_up c) w) f
     → Form production (In Statement c w) f
 constant at f =
-    form (choose (Sign token.Const) (place 1 at) (this (Sign token.Const) (place 1 at) (must (part _ f given))))
+    form (by_next (Sign token.Const) (place 1 at) (any (Sign token.Const) (place 1 at) (must (part _ f given))))
 
 -- a definition that is exported, with its `let`
 abbrev pub exports : {c : Context} {w : Live} {f : node.Statement × Live} (at keyword : ℕ)
     → Form production (goal.In (goal.Definition (place 1 keyword) false true) (level_up (level_up c)) w) f
     → Form production (In Statement c w) f
 exports at keyword f =
-    form (choose (Sign token.Export) (place 1 at) (this (Sign token.Export) (place 1 at) (must (must (part _ (form (
-    choose (Sign token.Let) (place 1 keyword) (must (this (Sign token.Let) (place 1 keyword) (
+    form (by_next (Sign token.Export) (place 1 at) (any (Sign token.Export) (place 1 at) (must (must (part _ (form (
+    by_next (Sign token.Let) (place 1 keyword) (must (any (Sign token.Let) (place 1 keyword) (
     part _ f given))))) given)))))
 
 -- an export of a variable, without another name
 abbrev pub exports_name : {c : Context} {w : Live} (at : ℕ) (name : Text) (column : ℕ)
     → Form production (In Statement c w) (export_tree name None (place 1 at), exported name [] w)
 exports_name at name column =
-    form (choose (Sign token.Export) (place 1 at) (this (Sign token.Export) (place 1 at) (must (must (part _ (form (
-    choose (Name name) (place 1 column) (
-    take (Name name) (place 1 column) (part _ (form (if_not given)) given)))) given)))))
+    form (by_next (Sign token.Export) (place 1 at) (any (Sign token.Export) (place 1 at) (must (must (part _ (form (
+    by_next (Name name) (place 1 column) (
+    of_kind (Name name) (place 1 column) (part _ (form (if_not given)) given)))) given)))))
 
 -- an import under another name
 abbrev pub imports : {c : Context} {w : Live} {x : Node} (at : ℕ)
     → Form production (In Expression (level_up (level_up c)) w) x → (as_at : ℕ) (name : Text) (column : ℕ)
     → Form production (In Statement c w) (import_tree x (Some name) (place 1 at), imported (Some name) w)
 imports at f as_at name column =
-    form (choose (Sign token.Import) (place 1 at) (this (Sign token.Import) (place 1 at) (must (must (part _ (form (
-    part _ f (part _ (form (if_so (this (Sign token.As) (place 1 as_at) (
-    take (Name name) (place 1 column) given)))) given))) given)))))
+    form (by_next (Sign token.Import) (place 1 at) (any (Sign token.Import) (place 1 at) (must (must (part _ (form (
+    part _ f (part _ (form (if_so (any (Sign token.As) (place 1 as_at) (
+    of_kind (Name name) (place 1 column) given)))) given))) given)))))
 
 -- ---- lists of statements
 
@@ -145,16 +145,16 @@ abbrev pub first_of : {closing : Closing} {c : Context} {w : Live} {before : nod
     (ends_itself f.0)) x
     → Form production (In (Statements closing before) c w) x
 first_of {closing} s so rest =
-    form (choose (begun s).0 (begun s).1 (statement_there (statement_role closing (begun s).0) so (part _ s rest)))
+    form (by_next (begun s).0 (begun s).1 (statement_there (statement_role closing (begun s).0) so (part _ s rest)))
 
 -- a semicolon after a statement, and the statements after it
 abbrev pub semicolon_then : {closing : Closing} {c : Context} {w v : Live} {before fs : node.Statements}
     {x : node.Statements × Live} (column : ℕ) → Form production (In (Statements closing fs) c v) x
     → Filled production (In (Statements closing before) c w) (P.after_one closing c v fs false) x
 semicolon_then {closing = Brace} column rest =
-    choose (Sign token.SemiColon) (place 1 column) (this (Sign token.SemiColon) (place 1 column) (part _ rest given))
+    by_next (Sign token.SemiColon) (place 1 column) (any (Sign token.SemiColon) (place 1 column) (part _ rest given))
 semicolon_then {closing = EndMark} column rest =
-    choose (Sign token.SemiColon) (place 1 column) (this (Sign token.SemiColon) (place 1 column) (part _ rest given))
+    by_next (Sign token.SemiColon) (place 1 column) (any (Sign token.SemiColon) (place 1 column) (part _ rest given))
 
 -- the statements after one that ends by itself
 abbrev pub followed_by : {closing : Closing} {c : Context} {w v : Live} {before fs : node.Statements}
@@ -165,20 +165,20 @@ followed_by rest = part _ rest given
 -- the last statement of a script, before the end mark; and of a block, before its `}`
 abbrev pub last_before : {c : Context} {w v : Live} {before fs : node.Statements} (end : ℕ)
     → Filled production (In (Statements EndMark before) c w) (P.after_one EndMark c v fs false) (fs, v)
-last_before end = choose (Sign token.EOF) (place 1 end) given
+last_before end = by_next (Sign token.EOF) (place 1 end) given
 
 abbrev pub last_inside : {c : Context} {w v : Live} {before fs : node.Statements} (closing : ℕ)
     → Filled production (In (Statements Brace before) c w) (P.after_one Brace c v fs false) (fs, v)
-last_inside closing = choose (Sign token.RightBrace) (place 1 closing) given
+last_inside closing = by_next (Sign token.RightBrace) (place 1 closing) given
 
 -- no further statement: in a script, before the end mark; and in a block, before its `}`
 abbrev pub no_more : {c : Context} {w : Live} {before : node.Statements} (end : ℕ)
     → Form production (In (Statements EndMark before) c w) (before, w)
-no_more end = form (choose (Sign token.EOF) (place 1 end) given)
+no_more end = form (by_next (Sign token.EOF) (place 1 end) given)
 
 abbrev pub no_more_inside : {c : Context} {w : Live} {before : node.Statements} (closing : ℕ)
     → Form production (In (Statements Brace before) c w) (before, w)
-no_more_inside closing = form (choose (Sign token.RightBrace) (place 1 closing) given)
+no_more_inside closing = form (by_next (Sign token.RightBrace) (place 1 closing) given)
 
 -- a script
 abbrev pub written_as : {c : Context} {w : Live} {x : node.Statements × Live} → Form production (Script c w) x
@@ -213,20 +213,20 @@ one {c} so f = form (one_inside (has_single_blocks c) so (part _ f given))
 -- a block after its `{`
 abbrev pub closed : {c : Context} {w : Live} {at : Position} {x : node.Statements} → Form production (In Inside c w) x
     → (closing : ℕ) → Form production (In (Block at) c w) (braces x at (place 1 closing))
-closed f closing = form (part _ f (part _ (form (take (Sign token.RightBrace) (place 1 closing) given)) given))
+closed f closing = form (part _ f (part _ (form (of_kind (Sign token.RightBrace) (place 1 closing) given)) given))
 
 -- the block of a construct, from its `{`
 abbrev pub braced : {c : Context} {w : Live} {at : Position} {x : node.Block} (opening : ℕ)
     → Form production (In (Block (place 1 opening)) (level_up c) w) x → Form production (goal.In (goal.Braced at) c w) x
 braced opening f =
-    form (part _ (form (take (Sign token.LeftBrace) (place 1 opening) given)) (must (part _ f given)))
+    form (part _ (form (of_kind (Sign token.LeftBrace) (place 1 opening) given)) (must (part _ f given)))
 
 -- a block as a statement
 abbrev pub block_at : {c : Context} {w : Live} {x : node.Block} (at : ℕ)
     → Form production (In (Block (place 1 at)) (level_up (level_up c)) w) x
     → Form production (In Statement c w) (block_statement x, w)
 block_at at f =
-    form (choose (Sign token.LeftBrace) (place 1 at) (this (Sign token.LeftBrace) (place 1 at) (must (must (
+    form (by_next (Sign token.LeftBrace) (place 1 at) (any (Sign token.LeftBrace) (place 1 at) (must (must (
     part _ (form (part _ f given)) given)))))
 
 -- a block as an operand without links, where the options allow that
@@ -234,8 +234,8 @@ abbrev pub block_operand : {c : Context} {w : Live} {o : Option (ℕ × Bool)} {
     → Holds (may_be_value c kind.Block) → Form production (In (Block (place 1 at)) (level_up (level_up c)) w) x
     → After c.filter o → Form production (In Operand c w) (block_value x)
 block_operand {c} at so f t =
-    form (choose (Sign token.LeftBrace) (place 1 at) (linked (form (choose (Sign token.LeftBrace) (place 1 at) (
-    holds _ (may_be_value c kind.Block) so (this (Sign token.LeftBrace) (place 1 at) (must (must (
+    form (by_next (Sign token.LeftBrace) (place 1 at) (linked (form (by_next (Sign token.LeftBrace) (place 1 at) (
+    holds _ (may_be_value c kind.Block) so (any (Sign token.LeftBrace) (place 1 at) (must (must (
     part _ (form (part _ f given)) given))))))) (unlinked t)))
 
 -- ---- jumps
@@ -253,7 +253,7 @@ abbrev pub returns : {c : Context} {w : Live} {x : node.Optional} (at : ℕ)
     → Form production (goal.In (goal.Jump (place 1 at)) c w) x
     → Form production (In Statement c w) (return_statement x false (place 1 at), w)
 returns at f =
-    form (choose (Sign token.Return) (place 1 at) (this (Sign token.Return) (place 1 at) (part _ f given)))
+    form (by_next (Sign token.Return) (place 1 at) (any (Sign token.Return) (place 1 at) (part _ f given)))
 
 -- where loops are allowed
 abbrev break_there : {c : Context} {w : Live} {x : node.Statement × Live} (b : Bool) → Holds b
@@ -267,5 +267,5 @@ abbrev pub breaks : {c : Context} {w : Live} {x : node.Optional} (at : ℕ) → 
     → Form production (goal.In (goal.Jump (place 1 at)) c w) x
     → Form production (In Statement c w) (node.break_loop x true (place 1 at), w)
 breaks {c} at so f =
-    form (choose (Sign token.Break) (place 1 at) (break_there (allows_looping c) so (
-    this (Sign token.Break) (place 1 at) (must (part _ f given)))))
+    form (by_next (Sign token.Break) (place 1 at) (break_there (allows_looping c) so (
+    any (Sign token.Break) (place 1 at) (must (part _ f given)))))

@@ -11,8 +11,8 @@ use Rattle.rhai_grammar_reading.specs.Reading as R
 use Rattle.rhai_grammar.specs.Goals.{Goal, Val}
 use Rattle.rhai_grammar.specs.Productions.{Production}
 use Rattle.rhai_grammar.specs.Rules.{production}
-use Rattle.rhai_grammar.specs.Forms.{Filled, Form, adds, apart, captures, choose, form, given, here, if_not}
-use Rattle.rhai_grammar.specs.Forms.{if_so, in_text, knows, literal, must, checked, part, take, this, uses}
+use Rattle.rhai_grammar.specs.Forms.{Filled, Form, adds, apart, captures, by_next, form, given, at_next, if_not}
+use Rattle.rhai_grammar.specs.Forms.{if_so, in_text, knows, literal, must, checked, part, of_kind, any, uses}
 use Rattle.rhai_grammar.specs.Events.{taken}
 use Rattle.rhai_grammar_laws.specs.WrittenUses.{free_names, outer_uses, outside, use_of, uses_in}
 
@@ -43,12 +43,12 @@ module _ (rule : (g : Goal) → Production (Val g)) where
     pub functions_of : {h : Goal} {p : Production (Val h)} {x : Val h} → Filled rule h p x → (names : List Text)
         → List WrittenFunction
     functions_of given names = []
-    functions_of (take l at f) names = functions_of f names
-    functions_of (this l at f) names = functions_of f names
+    functions_of (of_kind l at f) names = functions_of f names
+    functions_of (any l at f) names = functions_of f names
     functions_of (if_so f) names = functions_of f names
     functions_of (if_not f) names = functions_of f names
-    functions_of (choose l at f) names = functions_of f names
-    functions_of (here l at f) names = functions_of f names
+    functions_of (by_next l at f) names = functions_of f names
+    functions_of (at_next l at f) names = functions_of f names
     functions_of (must f) names = functions_of f names
     functions_of (checked f) names = functions_of f names
     functions_of (knows f) names = functions_of f names
@@ -72,13 +72,13 @@ example_name = name_tree example_parameter.slots false (codes "b") (place 1 5)
 
 -- `b` as an expression before the end mark
 abbrev example_expression : (context : Context) → Form production (R.In R.Expression context example_parameter) example_name
-example_expression context = form (here (Name (codes "b")) (place 1 5) (must (
-    part example_name (form (choose (Name (codes "b")) (place 1 5) (
-    part example_name (form (choose (Name (codes "b")) (place 1 5) (
-    this (Name (codes "b")) (place 1 5) (uses (Sign token.EOF) (place 1 6) given)))) (
+example_expression context = form (at_next (Name (codes "b")) (place 1 5) (must (
+    part example_name (form (by_next (Name (codes "b")) (place 1 5) (
+    part example_name (form (by_next (Name (codes "b")) (place 1 5) (
+    any (Name (codes "b")) (place 1 5) (uses (Sign token.EOF) (place 1 6) given)))) (
     part example_name (form (if_not (if_not given))) (
-    part [] (form (choose (Sign token.EOF) (place 1 6) (checked given))) (checked given)))))) (
-    part example_name (form (part None (form (choose (Sign token.EOF) (place 1 6) given)) given)) given))))
+    part [] (form (by_next (Sign token.EOF) (place 1 6) (checked given))) (checked given)))))) (
+    part example_name (form (part None (form (by_next (Sign token.EOF) (place 1 6) given)) given)) given))))
 
 abbrev example_captured : List Use
 example_captured = record { name = codes "b"; at = place 1 5 } ∷ []
@@ -88,11 +88,11 @@ abbrev example_closure : (context : Context) → Form production
     (R.In (R.Closure (place 1 1) bars.List) context nothing_live)
     (closure_node (place 1 1) 0 example_captured (codes "a" ∷ []) nothing_live)
 example_closure context = form (knows (
-    part (codes "a" ∷ []) (form (choose (Name (codes "a")) (place 1 2) (this (Name (codes "a")) (place 1 2) (must (
-    choose (Sign token.Pipe) (place 1 3) (this (Sign token.Pipe) (place 1 3) given)))))) (must (
+    part (codes "a" ∷ []) (form (by_next (Name (codes "a")) (place 1 2) (any (Name (codes "a")) (place 1 2) (must (
+    by_next (Sign token.Pipe) (place 1 3) (any (Sign token.Pipe) (place 1 3) given)))))) (must (
     apart (expression example_name) example_captured 0 (form (if_not (
-    part (expression example_name, example_parameter) (form (choose (Name (codes "b")) (place 1 5) (
-    here (Name (codes "b")) (place 1 5) (must (
+    part (expression example_name, example_parameter) (form (by_next (Name (codes "b")) (place 1 5) (
+    at_next (Name (codes "b")) (place 1 5) (must (
     part (expression example_name) (form (part example_name (example_expression _) (if_not given))) given))))) given)))
     (captures (knows (adds given)))))))
 

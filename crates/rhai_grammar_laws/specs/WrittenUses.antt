@@ -7,8 +7,8 @@ use Rattle.rhai_grammar.specs.Prelude.{number, place, with_ended}
 use Rattle.rhai_grammar_reading.specs.Reading as R
 use Rattle.rhai_grammar.specs.Goals.{Goal, Val}
 use Rattle.rhai_grammar.specs.Productions.{Production}
-use Rattle.rhai_grammar.specs.Forms.{Filled, Form, adds, apart, captures, choose, form, given, here, if_not}
-use Rattle.rhai_grammar.specs.Forms.{if_so, in_text, knows, literal, must, checked, part, take, this, uses}
+use Rattle.rhai_grammar.specs.Forms.{Filled, Form, adds, apart, captures, by_next, form, given, at_next, if_not}
+use Rattle.rhai_grammar.specs.Forms.{if_so, in_text, knows, literal, must, checked, part, of_kind, any, uses}
 use Rattle.rhai_grammar.specs.Events.{is_free, spelling_in}
 
 -- a name where it is used
@@ -68,12 +68,12 @@ module _ (rule : (g : Goal) → Production (Val g)) where
 
     pub uses_of : {h : Goal} {p : Production (Val h)} {x : Val h} → Filled rule h p x → List UseOrEnd
     uses_of given = []
-    uses_of (take l at f) = uses_of f
-    uses_of (this l at f) = uses_of f
+    uses_of (of_kind l at f) = uses_of f
+    uses_of (any l at f) = uses_of f
     uses_of (if_so f) = uses_of f
     uses_of (if_not f) = uses_of f
-    uses_of (choose l at f) = uses_of f
-    uses_of (here l at f) = uses_of f
+    uses_of (by_next l at f) = uses_of f
+    uses_of (at_next l at f) = uses_of f
     uses_of (must f) = uses_of f
     uses_of (checked f) = uses_of f
     uses_of (knows f) = uses_of f

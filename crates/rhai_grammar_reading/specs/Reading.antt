@@ -4,7 +4,7 @@ use Rattle.std.specs.Prelude.{◌≡◌, ℕ, Option, Some, None, if◌then◌el
 use Rattle.rhai_grammar.specs.Prelude.{Lexeme, Position, closure_count, is_due, is_end, not_due, refusal}
 use Rattle.rhai_grammar.specs.declared.due.DueToken.TheVariants as due_token
 use Rattle.rhai_grammar.specs.Views.{view}
-use Rattle.rhai_grammar.specs.Productions.{Production, give, never, take, this, choose, if_next, here, must, checked}
+use Rattle.rhai_grammar.specs.Productions.{Production, give, never, of_kind, any, by_next, if_next, at_next, must, checked}
 use Rattle.rhai_grammar.specs.Productions.{knows, adds, uses, captures, part, literal, apart, in_text, due}
 use Rattle.rhai_grammar.specs.Rules.{production}
 pub use Rattle.rhai_grammar.specs.Goals.{Goal, Given, What, Val, Script, In, Action, Alias, Arguments, Arm, ArmEnd}
@@ -24,19 +24,19 @@ abbrev pub run_from : {A : Type 0} → Production A → (seen : Option (Lexeme �
 run_from (give x) s = Ret x
 run_from (never why) (Some s) = Fail (refusal (why s.0) s.1)
 run_from (never why) None = Peek (λ l at. Fail (refusal (why l) at))
-run_from (take wanted missing k) (Some s) =
+run_from (of_kind wanted missing k) (Some s) =
     if wanted s.0 then Take (run_from (k s.0 s.1) None) else Fail (refusal (missing s.0) s.1)
-run_from (take wanted missing k) None =
+run_from (of_kind wanted missing k) None =
     Peek (λ l at. if wanted l then Take (run_from (k l at) None) else Fail (refusal (missing l) at))
-run_from (this k) (Some s) = Take (run_from (k s.0 s.1) None)
-run_from (this k) None = Peek (λ l at. Take (run_from (k l at) None))
-run_from (choose v k) (Some s) = run_from (k (view v s.0)) (Some s)
-run_from (choose v k) None = Peek (λ l at. run_from (k (view v l)) (Some (l, at)))
+run_from (any k) (Some s) = Take (run_from (k s.0 s.1) None)
+run_from (any k) None = Peek (λ l at. Take (run_from (k l at) None))
+run_from (by_next v k) (Some s) = run_from (k (view v s.0)) (Some s)
+run_from (by_next v k) None = Peek (λ l at. run_from (k (view v l)) (Some (l, at)))
 run_from (if_next is p q) (Some s) = if is s.0 then run_from p (Some s) else run_from q (Some s)
 run_from (if_next is p q) None =
     Peek (λ l at. if is l then run_from p (Some (l, at)) else run_from q (Some (l, at)))
-run_from (here k) (Some s) = run_from (k s.1) (Some s)
-run_from (here k) None = Peek (λ l at. run_from (k at) (Some (l, at)))
+run_from (at_next k) (Some s) = run_from (k s.1) (Some s)
+run_from (at_next k) None = Peek (λ l at. run_from (k at) (Some (l, at)))
 run_from (must b e p) s = if b then run_from p s else Fail e
 run_from (checked None p) s = run_from p s
 run_from (checked (Some e) p) s = Fail e
@@ -59,7 +59,7 @@ run p = run_from p None
 -- A token that is due is looked at, and taken or refused. One that decides and is then taken is looked at once.
 example : ((x : ℕ) → run (due due_token.RightParen (give x)) ≡ Peek (λ l at. if is_due due_token.RightParen l
     then Take (Ret x) else Fail (refusal (not_due due_token.RightParen l) at)))
-    × ((x : ℕ) → run (if_next is_end (give x) (this (λ l at. give x)))
+    × ((x : ℕ) → run (if_next is_end (give x) (any (λ l at. give x)))
     ≡ Peek (λ l at. if is_end l then Ret x else Take (Ret x)))
 example = (λ x. refl, λ x. refl)
 

@@ -9,7 +9,7 @@ use Rattle.rhai_grammar.specs.Contexts.{Context, Live}
 use Rattle.rhai_grammar.specs.Cursors.{left}
 use Rattle.rhai_grammar.specs.Delivered.{is_end, is_memory}
 use Rattle.rhai_grammar.specs.Starts.{role_after}
-use Rattle.rhai_grammar.specs.Productions.{Production, give, part, raise, this}
+use Rattle.rhai_grammar.specs.Productions.{Production, give, part, raise, any}
 use Rattle.rhai_grammar.specs.Rules.{binary_on}
 use Rattle.rhai_grammar_reading.specs.Reading.{BinaryOp, Goal, NextOperator, RightOperand, run}
 use Rattle.rhai_grammar_reading.specs.Running.{Gives, Progress, exec, guarded, next_item, result_of}
@@ -47,7 +47,7 @@ NextIs filter next s = (c : Context) (w : Live) (at : Position) (parent : ℕ) (
 -- is refused at a position.
 abbrev pub right_side : Context → Live → Position → Production (Lexeme × Position × Node)
 right_side context live at =
-    this (λ token op_at. part (RightOperand context live (role_after token)) (λ rhs.
+    any (λ token op_at. part (RightOperand context live (role_after token)) (λ rhs.
     part (NextOperator context.filter) (λ next. raise context at (λ deeper. give (token, op_at, rhs)))))
 
 abbrev pub side_view : Side → Lexeme × Position × Node
