@@ -25,7 +25,7 @@ use Rattle.rhai_parser.specs.Scripts.{ReadsExpression, ReadsScript, function_vie
 use Rattle.rhai_lower.specs.declared.optimizer.OptimizationLevel.{OptimizationLevel}
 use Rattle.rhai_grammar.specs.declared.error.ParseError.{ParseError}
 use Rattle.rhai_base.proofs.ErrorLemmas.{memory_cause}
-use Rattle.rhai_grammar_reading.specs.Reading.{Goal, Script, Val, Whole}
+use Rattle.rhai_grammar_reading.specs.Reading.{In, Goal, Script, Val, Whole}
 use Rattle.rhai_grammar_reading.specs.Running.{Done, Fails, Progress, result_of}
 use Rattle.rhai_grammar_reading.proofs.Entries as M
 use Rattle.rhai_grammar_reading.proofs.Entries.{Entry, IsNew}
@@ -109,7 +109,7 @@ module _ {F O : Type 0} {g : Goal} {whole : F → Demands} {stopping : O → Dem
 -- ---- the two kinds of entry points
 
 module _ (makes : Makes) (constants : Constants) (level : OptimizationLevel) (c : Context) (live : Live) (s left : Progress) where
-  pub expression_done : (x : Node) (result : Result AST ParseError) → IsNew s → result_of (Whole c live) s ≡ Done x left
+  pub expression_done : (x : Node) (result : Result AST ParseError) → IsNew s → result_of (In Whole c live) s ≡ Done x left
       → Accepts makes constants level x left.library result
       → ReadsExpression makes c live s.library left.library s.cursor left.cursor constants level result
   expression_done x result mode e is =
@@ -117,7 +117,7 @@ module _ (makes : Makes) (constants : Constants) (level : OptimizationLevel) (c 
       (ran_out (IsScriptOf makes constants level x left.library) result is)
       (λ f same. subst (λ y. Accepts makes constants level y left.library result) (sym same) is)
 
-  pub expression_fails : (e : ParseError) → IsNew s → Fails (result_of (Whole c live) s) e left
+  pub expression_fails : (e : ParseError) → IsNew s → Fails (result_of (In Whole c live) s) e left
       → ReadsExpression makes c live s.library left.library s.cursor left.cursor constants level (Err e)
   expression_fails e mode fails =
       reads_fails (expression_entry c live) (λ f script. IsScriptOf makes constants level f.0 left.library script) s left e

@@ -9,7 +9,7 @@ ghost use Rattle.rhai_grammar.specs.Cursors.{cursor_of};
 ghost use Rattle.rhai_grammar.specs.Delivered.{code};
 ghost use Rattle.rhai_grammar.specs.Promises.{HasRead, UnlessMemory};
 ghost use Rattle.rhai_grammar.specs.Uses.{Use};
-ghost use Rattle.rhai_grammar_reading.specs.Reading.{Whole};
+ghost use Rattle.rhai_grammar_reading.specs.Reading.{In, Whole};
 ghost use Rattle.rhai_grammar_reading.specs.Running.{Gives, result_of};
 ghost use Rattle.rhai_parser.specs.Scripts.{Accepts, ReadsExpression};
 ghost use Rattle.rhai_base.specs.Libraries.{Begins, Grows, library_of};
@@ -63,7 +63,7 @@ impl Engine {
         settings: ParseSettings,
     ) -> ParseResult<Expr>
         ensures reads { (used : List Use)
-            × Gives view (result_of (Whole (context_of self.now frame.now settings) (live_of frame.now))
+            × Gives view (result_of (In Whole (context_of self.now frame.now settings) (live_of frame.now))
             (record {
               cursor = cursor_of input.old;
               library = library_of library.old;

@@ -7,8 +7,9 @@ ghost use Rattle.rhai_base.specs.Frames.{SameSurroundings};
 ghost use Rattle.rhai_grammar.specs.Beginnings.{beginning};
 ghost use Rattle.rhai_parser_shared.specs.PlainPrimaries.{is_plain};
 ghost use Rattle.rhai_grammar_reading.specs.Running.{need, next_item};
-ghost use Rattle.rhai_parser_shared.specs.Readers.{NestsAs, ReadsAs, construct, expression, inside};
-ghost use Rattle.rhai_parser_shared.specs.Readers.{primary, state_of, statement, statements, statements_of, whole};
+ghost use Rattle.rhai_grammar.specs.Goals as what;
+ghost use Rattle.rhai_parser_shared.specs.Readers.{NestsAs, ReadsAs, under};
+ghost use Rattle.rhai_parser_shared.specs.Readers.{state_of, statements_of};
 ghost use Rattle.rhai_parser_shared.specs.Readers.{with_live};
 ghost use Rattle.rhai_parser_shared.specs.Statements.{NestsStatement};
 ghost use Rattle.rhai_parser_shared.specs.Heights.{function_height};
@@ -57,32 +58,32 @@ where
 {
     ghost lent = { λ s n.
         ((engine : _) (shared : _) (frame : _) (settings : _)
-        → need (expression engine.now frame.now settings) (state_of shared.now) ≡ n
+        → need (under what.Expression engine.now frame.now settings) (state_of shared.now) ≡ n
         → E.pre s.chain engine shared frame settings
         × ((result : _) (after : _) → E.post s.chain engine shared frame settings result after
-        → NestsAs engine.now frame.now settings 1 expression chain_view shared.now result after.now))
+        → NestsAs engine.now frame.now settings 1 what.Expression chain_view shared.now result after.now))
         × ((engine : _) (shared : _) (frame : _) (settings : _)
-        → need (statement engine.now frame.now settings) (state_of shared.now) ≡ n
+        → need (under what.Statement engine.now frame.now settings) (state_of shared.now) ≡ n
         → S.pre s.stmt engine shared frame settings
         × ((result : _) (after : _) (after_frame : _)
         → S.post s.stmt engine shared frame settings result after after_frame
         → NestsStatement engine.now frame.now after_frame.now settings shared.now result after.now))
         × ((engine : _) (shared : _) (frame : _) (settings : _) (kind : _)
-        → need (construct kind engine.now frame.now settings) (state_of shared.now) ≡ n
+        → need (under (what.Construct settings.pos kind) engine.now frame.now settings) (state_of shared.now) ≡ n
         → C.pre s.construct engine shared frame settings kind
         × ((result : _) (after : _) → C.post s.construct engine shared frame settings kind result after
-        → NestsAs engine.now frame.now settings 5 (construct kind) statement_view shared.now result after.now))
+        → NestsAs engine.now frame.now settings 5 (what.Construct settings.pos kind) statement_view shared.now result after.now))
         × ((engine : _) (shared : _) (frame : _) (settings : _)
-        → need (inside engine.now frame.now settings) (state_of shared.now) ≡ n
+        → need (under what.Inside engine.now frame.now settings) (state_of shared.now) ≡ n
         → B.pre s.inside engine shared frame settings
         × ((result : _) (after : _) → B.post s.inside engine shared frame settings result after
-        → NestsAs engine.now frame.now settings 3 inside statements_of shared.now result after.now))
+        → NestsAs engine.now frame.now settings 3 what.Inside statements_of shared.now result after.now))
         × ((engine : _) (shared : _) (frame : _) (settings : _)
         → is_plain (beginning (next_item (state_of shared.now)).lexeme) ≡ false
-        → need (primary engine.now frame.now settings) (state_of shared.now) ≡ n
+        → need (under what.Primary engine.now frame.now settings) (state_of shared.now) ≡ n
         → P.pre s.compound engine shared frame settings
         × ((result : _) (after : _) → P.post s.compound engine shared frame settings result after
-        → NestsAs engine.now frame.now settings 2 primary chain_view shared.now result after.now)) };
+        → NestsAs engine.now frame.now settings 2 what.Primary chain_view shared.now result after.now)) };
 
     fn parse_chain(
         &self,
@@ -160,7 +161,7 @@ fn parse_chain(
     frame: &Frame<'_>,
     settings: ParseSettings,
 ) -> ParseResult<Chain>
-    ensures { NestsAs engine.now frame.now settings 1 expression chain_view shared.old result shared.new }
+    ensures { NestsAs engine.now frame.now settings 1 what.Expression chain_view shared.old result shared.new }
 {
     let readers = lent!();
     let reader = expressions::Reader { engine, readers };
@@ -193,7 +194,7 @@ fn parse_construct(
     settings: ParseSettings,
     kind: Construct,
 ) -> ParseResult<Stmt>
-    ensures { NestsAs engine.now frame.now settings 5 (construct kind) statement_view shared.old result shared.new }
+    ensures { NestsAs engine.now frame.now settings 5 (what.Construct settings.pos kind) statement_view shared.old result shared.new }
 {
     let readers = lent!();
     match kind {
@@ -220,7 +221,7 @@ fn parse_block_inside(
     frame: &Frame<'_>,
     settings: ParseSettings,
 ) -> ParseResult<Vec<Stmt>>
-    ensures { NestsAs engine.now frame.now settings 3 inside statements_of shared.old result shared.new }
+    ensures { NestsAs engine.now frame.now settings 3 what.Inside statements_of shared.old result shared.new }
 {
     let readers = lent!();
     let reader = statements::Reader { engine, readers };
@@ -237,7 +238,7 @@ fn parse_compound(
     settings: ParseSettings,
 ) -> ParseResult<Chain>
     requires compound { is_plain (beginning (next_item (state_of shared.old)).lexeme) ≡ false }
-    ensures { NestsAs engine.now frame.now settings 2 primary chain_view shared.old result shared.new }
+    ensures { NestsAs engine.now frame.now settings 2 what.Primary chain_view shared.old result shared.new }
 {
     let readers = lent!();
     let reader = primaries::Reader { engine, readers };
@@ -252,7 +253,7 @@ pub(crate) fn parse_whole_expr(
     frame: &Frame<'_>,
     settings: ParseSettings,
 ) -> ParseResult<Expr>
-    ensures { ReadsAs engine.now frame.now settings 1 whole view shared.old result shared.new }
+    ensures { ReadsAs engine.now frame.now settings 1 what.Whole view shared.old result shared.new }
 {
     let chain = parse_chain(engine, shared, frame, settings)?;
     let expr = chain.nest(engine.alloc())?;
@@ -270,7 +271,7 @@ pub(crate) fn parse_statements(
     closing: Closing,
 ) -> ParseResult<Vec<Stmt>>
     ensures reads { ReadsAs engine.now frame.old settings (2 + function_height engine.now settings)
-        (statements closing no_statements) (with_live statements_of frame.new) shared.old result shared.new }
+        (what.Statements closing no_statements) (with_live statements_of frame.new) shared.old result shared.new }
     ensures place { SameSurroundings frame.old frame.new }
 {
     let readers = lent!();

@@ -13,7 +13,7 @@ use Rattle.rhai_grammar.specs.Contexts.{Context}
 use Rattle.rhai_grammar.specs.declared.filter.ExprFilter.{ExprFilter}
 use Rattle.rhai_grammar.specs.Settings.{Settings}
 use Rattle.rhai_grammar.specs.Rules.{follower_by}
-use Rattle.rhai_grammar_reading.specs.Reading.{Called, NextOperator, Ret, run_from}
+use Rattle.rhai_grammar_reading.specs.Reading.{In, Called, NextOperator, Ret, run_from}
 use Rattle.rhai_grammar_reading.specs.Running as R
 use Rattle.rhai_grammar_reading.specs.Running.{Gives, Progress, next_item, exec, guarded, after_peek, nested, result_of}
 use Rattle.rhai_grammar_reading.proofs.Steps.{step_next_operator}
@@ -25,7 +25,8 @@ use Rattle.rhai_base.specs.Settings.{settings_of}
 use Rattle.rhai_base.specs.declared.settings.ParseSettings.{ParseSettings}
 use Rattle.rhai_parser_shared.specs.Engines.{EngineValue, sizes_of}
 use Rattle.rhai_parser_shared.specs.Frames.{context_of, live_of}
-use Rattle.rhai_parser_shared.specs.Readers.{called}
+use Rattle.rhai_grammar.specs.Goals as what
+use Rattle.rhai_parser_shared.specs.Readers.{under}
 
 -- ---- operators
 
@@ -64,8 +65,8 @@ next_given f s t (Err e) found refused nowhere look readable = (
 
 -- ---- what a form stands in
 
-abbrev pub under : EngineValue → FrameValue → Settings → Context
-under engine frame c = record {
+abbrev pub context_under : EngineValue → FrameValue → Settings → Context
+context_under engine frame c = record {
   settings = c;
   options = engine.options;
   sizes = sizes_of engine;
@@ -76,13 +77,13 @@ under engine frame c = record {
 
 -- Settings that differ in their position alone make one context.
 pub same_context : (engine : EngineValue) (frame : FrameValue) (c d : ParseSettings) → settings_of c ≡ settings_of d → context_of engine frame c ≡ context_of engine frame d
-same_context engine frame c d e = ap (under engine frame) e
+same_context engine frame c d e = ap (context_under engine frame) e
 
 -- What calls a name is read alike under settings that differ in their position alone.
 pub same_called : (engine : EngineValue) (frame : FrameValue) (c d : ParseSettings) (at : Position) (q r : Bool) (t : Progress)
     → settings_of c ≡ settings_of d → c.pos ≡ at → q ≡ r
-    → nested (result_of (called q engine frame c)) t ≡ nested (result_of (Called (context_of engine frame d) (live_of frame) at r)) t
+    → nested (result_of (under (what.Called c.pos q) engine frame c)) t ≡ nested (result_of (In (Called at r) (context_of engine frame d) (live_of frame))) t
 same_called engine frame c d at q r t same stands is =
-    ap (λ k. nested (result_of (Called k (live_of frame) c.pos q)) t) (same_context engine frame c d same)
-    ∙ ap (λ p. nested (result_of (Called (context_of engine frame d) (live_of frame) p q)) t) stands
-    ∙ ap (λ b. nested (result_of (Called (context_of engine frame d) (live_of frame) at b)) t) is
+    ap (λ k. nested (result_of (In (Called c.pos q) k (live_of frame))) t) (same_context engine frame c d same)
+    ∙ ap (λ p. nested (result_of (In (Called p q) (context_of engine frame d) (live_of frame))) t) stands
+    ∙ ap (λ b. nested (result_of (In (Called at b) (context_of engine frame d) (live_of frame))) t) is

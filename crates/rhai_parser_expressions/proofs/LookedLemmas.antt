@@ -18,7 +18,7 @@ use Rattle.rhai_lower.specs.declared.position.Position.{Position}
 use Rattle.rhai_grammar.specs.declared.filter.ExprFilter.{ExprFilter}
 use Rattle.rhai_grammar.specs.Productions.{give}
 use Rattle.rhai_grammar.specs.Rules.{binary_of, binary_on, follower_by, links_by, postfix_of, tested}
-use Rattle.rhai_grammar_reading.specs.Reading.{BinaryOp, Goal, Links, NextOperator, Peek, Postfix, Prog, Ret, Val}
+use Rattle.rhai_grammar_reading.specs.Reading.{In, BinaryOp, Goal, Links, NextOperator, Peek, Postfix, Prog, Ret, Val}
 use Rattle.rhai_grammar_reading.specs.Reading.{body, run}
 use Rattle.rhai_grammar_reading.specs.Reading.{run_from}
 use Rattle.rhai_grammar_reading.specs.Running.{Caller, Done, Progress, Refused, Unfinished, and_then, next_item, exec}
@@ -31,10 +31,10 @@ use Rattle.rhai_base.specs.declared.operators.Operator.{Operator}
 use Rattle.rhai_parser_expressions.specs.NextOperators.{operator_pair}
 use Rattle.rhai_parser_expressions.specs.Runs.{NextIs, in_run, run_at}
 
-pub binary_looked : (c : Context) (w : Live) (at : Position) (parent : ℕ) (x : Node) (s : Progress) → result_of (BinaryOp c w at parent x) (after_peek s) ≡ result_of (BinaryOp c w at parent x) s
+pub binary_looked : (c : Context) (w : Live) (at : Position) (parent : ℕ) (x : Node) (s : Progress) → result_of (In (BinaryOp at parent x) c w) (after_peek s) ≡ result_of (In (BinaryOp at parent x) c w) s
 unfolding guarded only_less
 binary_looked c w at parent x s =
-    let goal = BinaryOp c w at parent x in
+    let goal = In (BinaryOp at parent x) c w in
     run_step goal (after_peek s)
     ∙ ap (λ o. and_then (if nat_lt (need (NextOperator c.filter) s) (need goal s) then o else Unfinished) (λ next t. exec (guarded goal s) (run (binary_of c w at parent x next)) t)) (looked (NextOperator c.filter) _ s refl)
     ∙ sym (run_step goal s)
@@ -55,9 +55,9 @@ neither true false false path call plain e = refl
 neither false a b path call plain e = refl
 
 -- an operand after which nothing calls it and no path goes on
-pub plain_postfix : (c : Context) (w : Live) (x : Node) (s t : Progress) → is_memory (next_item s).lexeme ≡ false → excludes_use (next_item s).lexeme ≡ false → t ≡ after_peek s → result_of (Postfix c w x) s ≡ Done x t
+pub plain_postfix : (c : Context) (w : Live) (x : Node) (s t : Progress) → is_memory (next_item s).lexeme ≡ false → excludes_use (next_item s).lexeme ≡ false → t ≡ after_peek s → result_of (In (Postfix x) c w) s ≡ Done x t
 plain_postfix c w x s t readable none there =
-    run_returns (Postfix c w x) (λ lexeme at. run_from (postfix_of c w x) (Some (lexeme, at))) s x refl readable (neither (is_variable x) (calls (next_item s).lexeme) (qualifies (next_item s).lexeme) _ _ _ none)
+    run_returns (In (Postfix x) c w) (λ lexeme at. run_from (postfix_of c w x) (Some (lexeme, at))) s x refl readable (neither (is_variable x) (calls (next_item s).lexeme) (qualifies (next_item s).lexeme) _ _ _ none)
     ∙ ap (Done x) (sym there)
 
 -- ---- the operator that comes next
@@ -80,7 +80,7 @@ runs_so call c w at parent lhs (Some o) s = goes_on call c w at parent lhs o s (
 
 next_is : (filter : ExprFilter) (o : Option Operator) (s : Progress) → result_of (NextOperator filter) s ≡ Done (option_map operator_pair o) s → NextIs filter o s
 next_is filter o s is c w at parent lhs same =
-    let goal = BinaryOp c w at parent lhs in
+    let goal = In (BinaryOp at parent lhs) c w in
     run_step goal s
     ∙ ap (λ u. and_then u (λ next t. exec (guarded goal s) (run (binary_of c w at parent lhs next)) t)) (guarded_is goal s (NextOperator c.filter) s (omega (arith)) ∙ ap (λ f. result_of (NextOperator f) s) same ∙ is)
     ∙ runs_so (guarded goal s) c w at parent lhs o s

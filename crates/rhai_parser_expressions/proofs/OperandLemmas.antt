@@ -21,7 +21,7 @@ use Rattle.rhai_grammar.specs.Settings.{one_more}
 use Rattle.rhai_grammar_reading.specs.Nesting.{Nesting, entered, left_one}
 use Rattle.rhai_grammar.specs.Productions.{part, tested}
 use Rattle.rhai_grammar.specs.Rules.{operand_by, operand_ends, sign_on}
-use Rattle.rhai_grammar_reading.specs.Reading.{Fail, Links, Operand, Postfix, Primary, run, run_from}
+use Rattle.rhai_grammar_reading.specs.Reading.{In, Fail, Links, Operand, Postfix, Primary, run, run_from}
 use Rattle.rhai_grammar_reading.specs.Running as R
 use Rattle.rhai_grammar_reading.specs.Running.{Caller, Progress, next_item, entering, exec, guarded, leaving}
 use Rattle.rhai_grammar_reading.specs.Running.{after_peek, after_take, nested, result_of}
@@ -31,37 +31,37 @@ use Rattle.rhai_parser_expressions.specs.Operands.{Counted}
 
 -- an operand without a sign is its first part, and what follows that
 operand_runs : (c : Context) (w : Live) (s : Progress) → is_memory (next_item s).lexeme ≡ false → is_sign (beginning (next_item s).lexeme) ≡ false
-    → result_of (Operand c w) s ≡ R.and_then (nested (result_of (Primary c w)) (after_peek s)) (λ x t. exec (guarded (Operand c w) s) (run (operand_ends c w x)) t)
+    → result_of (In Operand c w) s ≡ R.and_then (nested (result_of (In Primary c w)) (after_peek s)) (λ x t. exec (guarded (In Operand c w) s) (run (operand_ends c w x)) t)
 operand_runs c w s readable unsigned =
-    let g = Operand c w in
+    let g = In Operand c w in
     let call : Caller = guarded g s in
     let l = (next_item s).lexeme in
     let at = (next_item s).at in
     run_step g s
     ∙ ap (λ m. if m then R.Refused out_of_memory (after_peek s) else exec call (run_from (operand_by c w (beginning l)) (Some (l, at))) (after_peek s)) readable
     ∙ ap (λ p. exec call p (after_peek s)) (operand_other c w l at (beginning l) unsigned)
-    ∙ ap (λ o. R.and_then o (λ y u. exec call (run (operand_ends c w y)) u)) (nested_is g s (Primary c w) (after_peek s) (omega (arith)))
+    ∙ ap (λ o. R.and_then o (λ y u. exec call (run (operand_ends c w y)) u)) (nested_is g s (In Primary c w) (after_peek s) (omega (arith)))
 
 -- after its first part
-pub operand_begun : (c : Context) (w : Live) (x : Node) (s t : Progress) → is_memory (next_item s).lexeme ≡ false → is_sign (beginning (next_item s).lexeme) ≡ false → nested (result_of (Primary c w)) (after_peek s) ≡ R.Done x t
-    → result_of (Operand c w) s ≡ exec (guarded (Operand c w) s) (run (operand_ends c w x)) t
+pub operand_begun : (c : Context) (w : Live) (x : Node) (s t : Progress) → is_memory (next_item s).lexeme ≡ false → is_sign (beginning (next_item s).lexeme) ≡ false → nested (result_of (In Primary c w)) (after_peek s) ≡ R.Done x t
+    → result_of (In Operand c w) s ≡ exec (guarded (In Operand c w) s) (run (operand_ends c w x)) t
 operand_begun c w x s t readable unsigned read =
     operand_runs c w s readable unsigned
-    ∙ ap (λ o. R.and_then o (λ y u. exec (guarded (Operand c w) s) (run (operand_ends c w y)) u)) read
+    ∙ ap (λ o. R.and_then o (λ y u. exec (guarded (In Operand c w) s) (run (operand_ends c w y)) u)) read
 
 -- where its first part is refused
 pub operand_fails : (c : Context) (w : Live) (s : Progress) → is_memory (next_item s).lexeme ≡ false → is_sign (beginning (next_item s).lexeme) ≡ false
-    → (e : ParseError) (t : Progress) → R.Fails (nested (result_of (Primary c w)) (after_peek s)) e t → R.Fails (result_of (Operand c w) s) e t
+    → (e : ParseError) (t : Progress) → R.Fails (nested (result_of (In Primary c w)) (after_peek s)) e t → R.Fails (result_of (In Operand c w) s) e t
 operand_fails c w s readable unsigned e t fails = (
   λ told. operand_runs c w s readable unsigned
-      ∙ ap (λ o. R.and_then o (λ y u. exec (guarded (Operand c w) s) (run (operand_ends c w y)) u)) (fails.0 told),
+      ∙ ap (λ o. R.and_then o (λ y u. exec (guarded (In Operand c w) s) (run (operand_ends c w y)) u)) (fails.0 told),
   fails.1,
 )
 
 -- a reader that counts, where the next token was looked at
-nested_looked : (c : Context) (w : Live) (s : Progress) → nested (result_of (Operand c w)) (after_peek s) ≡ nested (result_of (Operand c w)) s
+nested_looked : (c : Context) (w : Live) (s : Progress) → nested (result_of (In Operand c w)) (after_peek s) ≡ nested (result_of (In Operand c w)) s
 unfolding nested
-nested_looked c w s = ap R.left_so (looked (Operand c w) _ (entering s) refl)
+nested_looked c w s = ap R.left_so (looked (In Operand c w) _ (entering s) refl)
 
 -- what is an operand by itself is no sign
 pub plain_unsigned : (b : Beginning) → is_plain b ≡ true → is_sign b ≡ false
@@ -82,9 +82,9 @@ pub record Signed (c d : Context) (s : Progress) : Type 0 where
   pub shrinks : left (after_take s).cursor.tokens + 1 ≤ left s.cursor.tokens
 
 signed_runs : (c d : Context) (w : Live) (s : Progress) → Signed c d s
-    → result_of (Operand c w) s ≡ R.and_then (nested (result_of (Operand d w)) (after_peek (after_take s))) (λ x t. exec (guarded (Operand c w) s) (run (sign_on (next_item s).lexeme (next_item s).at x)) t)
+    → result_of (In Operand c w) s ≡ R.and_then (nested (result_of (In Operand d w)) (after_peek (after_take s))) (λ x t. exec (guarded (In Operand c w) s) (run (sign_on (next_item s).lexeme (next_item s).at x)) t)
 signed_runs c d w s h =
-    let g = Operand c w in
+    let g = In Operand c w in
     let call : Caller = guarded g s in
     let l = (next_item s).lexeme in
     let at = (next_item s).at in
@@ -92,27 +92,27 @@ signed_runs c d w s h =
     run_step g s
     ∙ ap (λ m. if m then R.Refused out_of_memory (after_peek s) else exec call (run_from (operand_by c w (beginning l)) (Some (l, at))) (after_peek s)) h.readable
     ∙ ap (λ p. exec call p (after_peek s)) (operand_sign c w l at (beginning l) h.sign)
-    ∙ ap (λ m. if m then R.Refused out_of_memory (after_peek (after_peek s)) else exec call (if may_raise c then run (part (Operand (level_up c) w) (sign_on l at)) else Fail (refusal ExprTooDeep at)) (after_take s)) h.readable
-    ∙ ap (λ b. exec call (if b then run (part (Operand (level_up c) w) (sign_on l at)) else Fail (refusal ExprTooDeep at)) (after_take s)) h.room
-    ∙ ap on (nested_is g s (Operand (level_up c) w) (after_take s) (omega (arith, h.shrinks)))
-    ∙ ap (λ (e : Context). on (nested (result_of (Operand e w)) (after_take s))) (sym h.deeper)
+    ∙ ap (λ m. if m then R.Refused out_of_memory (after_peek (after_peek s)) else exec call (if may_raise c then run (part (In Operand (level_up c) w) (sign_on l at)) else Fail (refusal ExprTooDeep at)) (after_take s)) h.readable
+    ∙ ap (λ b. exec call (if b then run (part (In Operand (level_up c) w) (sign_on l at)) else Fail (refusal ExprTooDeep at)) (after_take s)) h.room
+    ∙ ap on (nested_is g s (In Operand (level_up c) w) (after_take s) (omega (arith, h.shrinks)))
+    ∙ ap (λ (e : Context). on (nested (result_of (In Operand e w)) (after_take s))) (sym h.deeper)
     ∙ ap on (sym (nested_looked d w (after_take s)))
 
 -- the operand after it was read
 pub signed_so : (c d : Context) (w : Live) (x : Node) (s t : Progress) → Signed c d s
-    → nested (result_of (Operand d w)) (after_peek (after_take s)) ≡ R.Done x t
-    → result_of (Operand c w) s ≡ outcome (sign_result (next_item s).lexeme (next_item s).at x) t
+    → nested (result_of (In Operand d w)) (after_peek (after_take s)) ≡ R.Done x t
+    → result_of (In Operand c w) s ≡ outcome (sign_result (next_item s).lexeme (next_item s).at x) t
 signed_so c d w x s t h read =
     signed_runs c d w s h
-    ∙ ap (λ o. R.and_then o (λ y u. exec (guarded (Operand c w) s) (run (sign_on (next_item s).lexeme (next_item s).at y)) u)) read
-    ∙ sign_outcome (guarded (Operand c w) s) (next_item s).lexeme (next_item s).at x t
+    ∙ ap (λ o. R.and_then o (λ y u. exec (guarded (In Operand c w) s) (run (sign_on (next_item s).lexeme (next_item s).at y)) u)) read
+    ∙ sign_outcome (guarded (In Operand c w) s) (next_item s).lexeme (next_item s).at x t
 
 -- or refused
 pub signed_fails : (c d : Context) (w : Live) (s : Progress) → Signed c d s
-    → (e : ParseError) (t : Progress) → R.Fails (nested (result_of (Operand d w)) (after_peek (after_take s))) e t → R.Fails (result_of (Operand c w) s) e t
+    → (e : ParseError) (t : Progress) → R.Fails (nested (result_of (In Operand d w)) (after_peek (after_take s))) e t → R.Fails (result_of (In Operand c w) s) e t
 signed_fails c d w s h e t fails = (
   λ told. signed_runs c d w s h
-      ∙ ap (λ o. R.and_then o (λ y u. exec (guarded (Operand c w) s) (run (sign_on (next_item s).lexeme (next_item s).at y)) u)) (fails.0 told),
+      ∙ ap (λ o. R.and_then o (λ y u. exec (guarded (In Operand c w) s) (run (sign_on (next_item s).lexeme (next_item s).at y)) u)) (fails.0 told),
   fails.1,
 )
 
@@ -137,34 +137,34 @@ counted_once s e u {t} here same there =
 
 module _ (c : Context) (w : Live) (x : Node) (s t : Progress) (less : left t.cursor.tokens ≤ left s.cursor.tokens) where
   call : Caller
-  call = guarded (Operand c w) s
+  call = guarded (In Operand c w) s
 
   -- what follows what calls it
   after : Node → Progress → R.Out Node
   after y u = exec call (run (part (Links w (spot_after_operand c y)) (λ links. tested (chained y links) (module_fault c w y)))) u
 
   -- where the next token was looked at
-  pub ends_looked : exec (guarded (Operand c w) s) (run (operand_ends c w x)) (after_peek t) ≡ exec (guarded (Operand c w) s) (run (operand_ends c w x)) t
+  pub ends_looked : exec (guarded (In Operand c w) s) (run (operand_ends c w x)) (after_peek t) ≡ exec (guarded (In Operand c w) s) (run (operand_ends c w x)) t
   unfolding call after nested
   ends_looked =
-      let g = Operand c w in
-      let h = Postfix c w x in
+      let g = In Operand c w in
+      let h = In (Postfix x) c w in
       ap (λ o. R.and_then (R.left_so o) after) (guarded_is g s h (entering (after_peek t)) (omega (arith, less)) ∙ looked h _ (entering t) refl ∙ sym (guarded_is g s h (entering t) (omega (arith, less))))
 
   -- where nothing calls it, and no link follows
-  pub ends_plain : result_of (Postfix c w x) (entering t) ≡ R.Done x (entering t) → result_of (Links w (spot_after_operand c x)) (leaving (entering t)) ≡ R.Done [] (leaving (entering t))
-      → exec (guarded (Operand c w) s) (run (operand_ends c w x)) t ≡ exec (guarded (Operand c w) s) (run (tested x (module_fault c w x))) (leaving (entering t))
+  pub ends_plain : result_of (In (Postfix x) c w) (entering t) ≡ R.Done x (entering t) → result_of (Links w (spot_after_operand c x)) (leaving (entering t)) ≡ R.Done [] (leaving (entering t))
+      → exec (guarded (In Operand c w) s) (run (operand_ends c w x)) t ≡ exec (guarded (In Operand c w) s) (run (tested x (module_fault c w x))) (leaving (entering t))
   unfolding call after nested
   ends_plain uncalled unlinked =
-      let g = Operand c w in
+      let g = In Operand c w in
       let u = leaving (entering t) in
-      ap (λ o. R.and_then (R.left_so o) after) (guarded_is g s (Postfix c w x) (entering t) (omega (arith, less)) ∙ uncalled)
+      ap (λ o. R.and_then (R.left_so o) after) (guarded_is g s (In (Postfix x) c w) (entering t) (omega (arith, less)) ∙ uncalled)
       ∙ ap (λ o. R.and_then o (λ links v. exec call (run (tested (chained x links) (module_fault c w x))) v)) (guarded_is g s (Links w (spot_after_operand c x)) u (omega (arith, less)) ∙ unlinked)
 
   -- the same where its readers have been counted
-  pub ends_counted : Counted t → result_of (Postfix c w x) (entering t) ≡ R.Done x (entering t) → result_of (Links w (spot_after_operand c x)) t ≡ R.Done [] t
-      → exec (guarded (Operand c w) s) (run (operand_ends c w x)) t ≡ exec (guarded (Operand c w) s) (run (tested x (module_fault c w x))) t
+  pub ends_counted : Counted t → result_of (In (Postfix x) c w) (entering t) ≡ R.Done x (entering t) → result_of (Links w (spot_after_operand c x)) t ≡ R.Done [] t
+      → exec (guarded (In Operand c w) s) (run (operand_ends c w x)) t ≡ exec (guarded (In Operand c w) s) (run (tested x (module_fault c w x))) t
   ends_counted counted uncalled unlinked =
       let back : leaving (entering t) ≡ t = untraced t counted in
       ends_plain uncalled (subst (λ q. result_of (Links w (spot_after_operand c x)) q ≡ R.Done [] q) (sym back) unlinked)
-      ∙ ap (λ q. exec (guarded (Operand c w) s) (run (tested x (module_fault c w x))) q) back
+      ∙ ap (λ q. exec (guarded (In Operand c w) s) (run (tested x (module_fault c w x))) q) back

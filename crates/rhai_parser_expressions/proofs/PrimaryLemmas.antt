@@ -20,7 +20,7 @@ use Rattle.rhai_grammar.specs.declared.role.Beginning.TheVariants as begin
 use Rattle.rhai_grammar.specs.Uses.{Use, noted}
 use Rattle.rhai_grammar.specs.Productions.{give, must, stop}
 use Rattle.rhai_grammar.specs.Rules.{name_of, word_of}
-use Rattle.rhai_grammar_reading.specs.Reading.{Ret, Fail, Note, Primary, run_from}
+use Rattle.rhai_grammar_reading.specs.Reading.{In, Ret, Fail, Note, Primary, run_from}
 use Rattle.rhai_grammar_reading.specs.Running as R
 use Rattle.rhai_grammar_reading.specs.Running.{Caller, Progress, next_item, exec, guarded, result_of, with_captured}
 use Rattle.rhai_base.specs.Words.{name_result, no_this, word_result}
@@ -55,10 +55,10 @@ word_outcome call c word at l p t = ap (λ q. exec call q t) (word_answers c wor
 
 pub worded_outcome : (c : Context) (w : Live) {word : Text} {at : Position} {called : Bool} {s s1 s2 t : Progress}
     → Worded begin.Word calls word at called s s1 s2 t
-    → result_of (Primary c w) s ≡ outcome (word_result c.settings word called at) t
+    → result_of (In Primary c w) s ≡ outcome (word_result c.settings word called at) t
 worded_outcome c w {word} {at} {called} {s} {s1} {s2} {t} h =
     worded c w (λ x p l q. run_from (word_of c x p) (Some (l, q))) (λ l p. refl) h
-    ∙ word_outcome (guarded (Primary c w) s) c word at (next_item s2).lexeme (next_item s2).at t
+    ∙ word_outcome (guarded (In Primary c w) s) c word at (next_item s2).lexeme (next_item s2).at t
     ∙ ap (λ b. outcome (word_result c.settings word b at) t) (sym h.is_so)
 
 -- ---- names
@@ -104,5 +104,5 @@ word_value c word called at z is = by_choice (may_be_called word && called) (is_
 -- what follows the look after a name
 pub named : (c : Context) (w : Live) {name : Text} {at : Position} {excluded : Bool} {s s1 s2 t : Progress}
     → Worded begin.Name excludes_use name at excluded s s1 s2 t
-    → result_of (Primary c w) s ≡ exec (guarded (Primary c w) s) (run_from (name_of c w name at) (Some ((next_item s2).lexeme, (next_item s2).at))) t
+    → result_of (In Primary c w) s ≡ exec (guarded (In Primary c w) s) (run_from (name_of c w name at) (Some ((next_item s2).lexeme, (next_item s2).at))) t
 named c w h = worded c w (λ x p l q. run_from (name_of c w x p) (Some (l, q))) (λ l p. refl) h

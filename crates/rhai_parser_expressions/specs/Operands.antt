@@ -6,7 +6,7 @@ use Rattle.rhai_grammar.specs.Delivered.{is_memory}
 use Rattle.rhai_grammar.specs.Spots.{spot_after_operand}
 use Rattle.rhai_grammar_reading.specs.Nesting.{entered, left_one}
 use Rattle.rhai_grammar.specs.Rules.{call_on}
-use Rattle.rhai_grammar_reading.specs.Reading.{Links, Postfix, Prog, Ret, run}
+use Rattle.rhai_grammar_reading.specs.Reading.{In, Links, Postfix, Prog, Ret, run}
 use Rattle.rhai_grammar_reading.specs.Running.{Done, Progress, after_peek, entering, next_item, result_of}
 use Rattle.rhai_base.specs.OperandEnds.{ends_operand}
 
@@ -26,5 +26,5 @@ pub record EndsHere (s : Progress) : Type 0 where
 
 -- Nothing calls an operand, it is no part of a path, and no link follows it.
 pub record NoEnds (context : Context) (live : Live) (x : Node) (s : Progress) : Type 0 where
-  pub postfix : result_of (Postfix context live x) (entering s) ≡ Done x (entering s)
+  pub postfix : result_of (In (Postfix x) context live) (entering s) ≡ Done x (entering s)
   pub links : result_of (Links live (spot_after_operand context x)) s ≡ Done [] s

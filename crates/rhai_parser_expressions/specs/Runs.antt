@@ -11,7 +11,7 @@ use Rattle.rhai_grammar.specs.Delivered.{is_end, is_memory}
 use Rattle.rhai_grammar.specs.Starts.{role_after}
 use Rattle.rhai_grammar.specs.Productions.{Production, give, part, raise, any}
 use Rattle.rhai_grammar.specs.Rules.{binary_on}
-use Rattle.rhai_grammar_reading.specs.Reading.{BinaryOp, Goal, NextOperator, RightOperand, run}
+use Rattle.rhai_grammar_reading.specs.Reading.{In, BinaryOp, Goal, NextOperator, RightOperand, run}
 use Rattle.rhai_grammar_reading.specs.Running.{Gives, Progress, exec, guarded, next_item, result_of}
 use Rattle.rhai_grammar.specs.declared.error.ParseError.{ParseError}
 use Rattle.rhai_grammar.specs.declared.filter.ExprFilter.{ExprFilter}
@@ -40,14 +40,14 @@ in_run parent (Some operator) = if continues parent operator then Some operator 
 -- This operator comes next, or none does: each run goes on so.
 abbrev pub NextIs : ExprFilter → Option Operator → Progress → Type 0
 NextIs filter next s = (c : Context) (w : Live) (at : Position) (parent : ℕ) (lhs : Node) → c.filter ≡ filter
-    → result_of (BinaryOp c w at parent lhs) s
-    ≡ exec (guarded (BinaryOp c w at parent lhs) s) (run (run_at c w at parent lhs (in_run parent next))) s
+    → result_of (In (BinaryOp at parent lhs) c w) s
+    ≡ exec (guarded (In (BinaryOp at parent lhs) c w) s) (run (run_at c w at parent lhs (in_run parent next))) s
 
 -- An operator and the operand after it: the token, its position and the operand. The level that is raised behind them
 -- is refused at a position.
 abbrev pub right_side : Context → Live → Position → Production (Lexeme × Position × Node)
 right_side context live at =
-    any (λ token op_at. part (RightOperand context live (role_after token)) (λ rhs.
+    any (λ token op_at. part (In (RightOperand (role_after token)) context live) (λ rhs.
     part (NextOperator context.filter) (λ next. raise context at (λ deeper. give (token, op_at, rhs)))))
 
 abbrev pub side_view : Side → Lexeme × Position × Node

@@ -4,10 +4,10 @@ ghost use Rattle.std.specs.Prelude.{◌≡◌, false};
 ghost use Rattle.rhai_lower.specs.View.{view};
 ghost use Rattle.rhai_grammar.specs.Delivered.{is_end};
 ghost use Rattle.rhai_grammar_reading.specs.Running.{next_item};
-ghost use Rattle.rhai_parser_shared.specs.Readers.{called, links, member, state_of};
-ghost use Rattle.rhai_trees.specs.Chains.{chain_view};
-ghost use Rattle.rhai_parser_expressions.specs.ExprViews.{call_view, linked};
-ghost use Rattle.rhai_parser_expressions.specs.Readers.{Lends, Reads, ReadsMember, index_of};
+ghost use Rattle.rhai_grammar.specs.Goals as what;
+ghost use Rattle.rhai_parser_shared.specs.Readers.{state_of};
+ghost use Rattle.rhai_parser_expressions.specs.ExprViews.{call_view};
+ghost use Rattle.rhai_parser_expressions.specs.Readers.{Lends, LendsLinks, Reads, ReadsLinks, ReadsMember, index_of};
 
 use crate::expr::asks::end_index;
 use crate::reader::Reader;
@@ -35,8 +35,8 @@ impl<R: LentReaders> Reader<'_, R> {
         settings: ParseSettings,
         qualified: bool,
     ) -> ParseResult<Call>
-        requires lent { Lends R.lent self.now (called qualified) frame.now settings shared.old }
-        ensures { Reads self.now frame.now settings 1 (called qualified) call_view shared.old result shared.new }
+        requires lent { Lends R.lent self.now (what.Called settings.pos qualified) frame.now settings shared.old }
+        ensures { Reads self.now frame.now settings 1 (what.Called settings.pos qualified) call_view shared.old result shared.new }
     {
         let (token, pos) = peek(shared.input)?;
         let pos = *pos;
@@ -79,8 +79,8 @@ impl<R: LentReaders> Reader<'_, R> {
         settings: ParseSettings,
         lhs: &Chain,
     ) -> ParseResult<Vec<Link>>
-        requires lent { Lends R.lent self.now (links (chain_view lhs.now)) frame.now settings shared.old }
-        ensures { Reads self.now frame.now settings 0 (links (chain_view lhs.now)) linked shared.old result shared.new }
+        requires lent { LendsLinks R.lent self.now lhs.now frame.now settings shared.old }
+        ensures { ReadsLinks self.now lhs.now frame.now settings shared.old result shared.new }
     {
         let (token, _) = peek(shared.input)?;
         match what_links(token) {
@@ -101,8 +101,8 @@ impl<R: LentReaders> Reader<'_, R> {
         settings: ParseSettings,
         lhs: &Chain,
     ) -> ParseResult<Vec<Link>>
-        requires lent { Lends R.lent self.now (links (chain_view lhs.now)) frame.now settings shared.old }
-        ensures { Reads self.now frame.now settings 0 (links (chain_view lhs.now)) linked shared.old result shared.new }
+        requires lent { LendsLinks R.lent self.now lhs.now frame.now settings shared.old }
+        ensures { ReadsLinks self.now lhs.now frame.now settings shared.old result shared.new }
     {
         let mut settings = settings;
         let mut brackets = settings;
@@ -176,7 +176,7 @@ impl<R: LentReaders> Reader<'_, R> {
         settings: ParseSettings,
     ) -> ParseResult<Expr>
         requires seen { is_end (next_item (state_of shared.old)).lexeme ≡ false }
-        requires lent { Lends R.lent self.now member frame.now settings shared.old }
+        requires lent { Lends R.lent self.now what.Member frame.now settings shared.old }
         ensures { ReadsMember self.now frame.now settings shared.old result shared.new }
     {
         let (token, pos) = peek(shared.input)?;

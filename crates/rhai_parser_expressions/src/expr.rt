@@ -9,9 +9,8 @@ ghost use Rattle.rhai_lower.specs.Nodes.{no_nodes};
 ghost use Rattle.rhai_parser_shared.specs.Frames.{context_of, live_of};
 ghost use Rattle.rhai_parser_expressions.specs.Operands.{Counted, EndsHere, NoEnds};
 ghost use Rattle.rhai_parser_shared.specs.Parts.{Begins};
-ghost use Rattle.rhai_parser_shared.specs.Readers.{arguments, expression, items};
-ghost use Rattle.rhai_parser_shared.specs.Readers.{operand, postfix};
-ghost use Rattle.rhai_parser_shared.specs.Readers.{right_operand, state_of, views_of};
+ghost use Rattle.rhai_grammar.specs.Goals as what;
+ghost use Rattle.rhai_parser_shared.specs.Readers.{state_of, views_of};
 ghost use Rattle.rhai_parser_shared.specs.PlainPrimaries.{is_plain};
 ghost use Rattle.rhai_trees.specs.Chains.{chain_view};
 ghost use Rattle.rhai_parser_expressions.specs.Readers.{Lends, Reads, ReadsEnds};
@@ -45,8 +44,8 @@ impl<R: LentReaders> Reader<'_, R> {
         settings: ParseSettings,
         operand: Chain,
     ) -> ParseResult<Chain>
-        requires lent { Lends R.lent self.now (postfix (chain_view operand)) frame.now settings shared.old }
-        ensures { Reads self.now frame.now settings 2 (postfix (chain_view operand)) chain_view shared.old result
+        requires lent { Lends R.lent self.now (what.Postfix (chain_view operand)) frame.now settings shared.old }
+        ensures { Reads self.now frame.now settings 2 (what.Postfix (chain_view operand)) chain_view shared.old result
             shared.new }
     {
         if !excludes_use(shared.input)? {
@@ -67,8 +66,8 @@ impl<R: LentReaders> Reader<'_, R> {
         settings: ParseSettings,
         operand: Chain,
     ) -> ParseResult<Chain>
-        requires lent { Lends R.lent self.now (postfix (chain_view operand)) frame.now settings shared.old }
-        ensures { Reads self.now frame.now settings 2 (postfix (chain_view operand)) chain_view shared.old result
+        requires lent { Lends R.lent self.now (what.Postfix (chain_view operand)) frame.now settings shared.old }
+        ensures { Reads self.now frame.now settings 2 (what.Postfix (chain_view operand)) chain_view shared.old result
             shared.new }
     {
         let alloc = self.engine.alloc();
@@ -102,8 +101,8 @@ impl<R: LentReaders> Reader<'_, R> {
         frame: &Frame<'_>,
         settings: ParseSettings,
     ) -> ParseResult<Vec<Expr>>
-        requires lent { Lends R.lent self.now arguments frame.now settings shared.old }
-        ensures { Reads self.now frame.now settings 0 arguments views_of shared.old result shared.new }
+        requires lent { Lends R.lent self.now (what.Arguments settings.pos) frame.now settings shared.old }
+        ensures { Reads self.now frame.now settings 0 (what.Arguments settings.pos) views_of shared.old result shared.new }
     {
         let (token, pos) = peek(shared.input)?;
         if is_no_argument(token) {
@@ -126,8 +125,8 @@ impl<R: LentReaders> Reader<'_, R> {
         frame: &Frame<'_>,
         settings: ParseSettings,
     ) -> ParseResult<Vec<Expr>>
-        requires lent { Lends R.lent self.now (items no_nodes) frame.now settings shared.old }
-        ensures { Reads self.now frame.now settings 1 (items no_nodes) views_of shared.old result shared.new }
+        requires lent { Lends R.lent self.now (what.Items no_nodes) frame.now settings shared.old }
+        ensures { Reads self.now frame.now settings 1 (what.Items no_nodes) views_of shared.old result shared.new }
     {
         let mut items = Vec::new(self.engine.alloc());
         loop {
@@ -156,8 +155,8 @@ impl<R: LentReaders> Reader<'_, R> {
         settings: ParseSettings,
         place: OperandRole,
     ) -> ParseResult<Chain>
-        requires lent { Lends R.lent self.now (right_operand place) frame.now settings shared.old }
-        ensures { Reads self.now frame.now settings 4 (right_operand place) chain_view shared.old result shared.new }
+        requires lent { Lends R.lent self.now (what.RightOperand place) frame.now settings shared.old }
+        ensures { Reads self.now frame.now settings 4 (what.RightOperand place) chain_view shared.old result shared.new }
     {
         let alloc = self.engine.alloc();
         let (token, pos) = peek(shared.input)?;
@@ -189,8 +188,8 @@ impl<R: LentReaders> Reader<'_, R> {
         frame: &Frame<'_>,
         settings: ParseSettings,
     ) -> ParseResult<Chain>
-        requires lent { Lends R.lent self.now operand frame.now settings shared.old }
-        ensures { Reads self.now frame.now settings 3 operand chain_view shared.old result shared.new }
+        requires lent { Lends R.lent self.now what.Operand frame.now settings shared.old }
+        ensures { Reads self.now frame.now settings 3 what.Operand chain_view shared.old result shared.new }
     {
         let (token, _) = peek(shared.input)?;
         let begins = what_begins(token);
@@ -224,8 +223,8 @@ impl<R: LentReaders> Reader<'_, R> {
         begins: Beginning,
     ) -> ParseResult<Chain>
         requires begins { Begins begins (state_of shared.old) × (is_plain begins ≡ true) }
-        requires lent { Lends R.lent self.now operand frame.now settings shared.old }
-        ensures { Reads self.now frame.now settings 3 operand chain_view shared.old result shared.new }
+        requires lent { Lends R.lent self.now what.Operand frame.now settings shared.old }
+        ensures { Reads self.now frame.now settings 3 what.Operand chain_view shared.old result shared.new }
     {
         let primary = nested!(shared, self.parse_primary(shared, frame, settings, begins))?;
         self.parse_ends(shared, frame, settings, primary)
@@ -242,8 +241,8 @@ impl<R: LentReaders> Reader<'_, R> {
         begins: Beginning,
     ) -> ParseResult<Chain>
         requires begins { Begins begins (state_of shared.old) }
-        requires lent { Lends R.lent self.now operand frame.now settings shared.old }
-        ensures { Reads self.now frame.now settings 3 operand chain_view shared.old result shared.new }
+        requires lent { Lends R.lent self.now what.Operand frame.now settings shared.old }
+        ensures { Reads self.now frame.now settings 3 what.Operand chain_view shared.old result shared.new }
     {
         match begins {
             Beginning::Sign => {
@@ -293,7 +292,7 @@ impl<R: LentReaders> Reader<'_, R> {
         primary: Chain,
     ) -> ParseResult<Chain>
         requires counted { Counted (state_of shared.old) }
-        requires lent { Lends R.lent self.now operand frame.now settings shared.old }
+        requires lent { Lends R.lent self.now what.Operand frame.now settings shared.old }
         ensures { ReadsEnds self.now frame.now settings primary shared.old result shared.new }
     {
         if !next_ends_operand(shared)? {
@@ -316,7 +315,7 @@ impl<R: LentReaders> Reader<'_, R> {
         settings: ParseSettings,
         primary: Chain,
     ) -> ParseResult<Chain>
-        requires lent { Lends R.lent self.now operand frame.now settings shared.old }
+        requires lent { Lends R.lent self.now what.Operand frame.now settings shared.old }
         ensures { ReadsEnds self.now frame.now settings primary shared.old result shared.new }
     {
         let operand = nested!(shared, self.parse_postfix(shared, frame, settings, primary))?;
@@ -334,8 +333,8 @@ impl<R: LentReaders> Reader<'_, R> {
         frame: &Frame<'_>,
         settings: ParseSettings,
     ) -> ParseResult<Chain>
-        requires lent { Lends R.lent self.now expression frame.now settings shared.old }
-        ensures { Reads self.now frame.now settings 0 expression chain_view shared.old result shared.new }
+        requires lent { Lends R.lent self.now what.Expression frame.now settings shared.old }
+        ensures { Reads self.now frame.now settings 0 what.Expression chain_view shared.old result shared.new }
     {
         let (_, pos) = peek(shared.input)?;
         let settings = settings.at(*pos).level_up()?;

@@ -4,7 +4,8 @@
 pub(crate) mod asks;
 
 ghost use Rattle.std.specs.Prelude.{◌≡◌, true};
-ghost use Rattle.rhai_parser_shared.specs.Readers.{primary, state_of};
+ghost use Rattle.rhai_grammar.specs.Goals as what;
+ghost use Rattle.rhai_parser_shared.specs.Readers.{state_of};
 ghost use Rattle.rhai_parser_shared.specs.Parts.{Begins};
 ghost use Rattle.rhai_parser_shared.specs.PlainPrimaries.{is_plain};
 ghost use Rattle.rhai_trees.specs.Chains.{chain_view};
@@ -31,7 +32,7 @@ impl<R: LentReaders> Reader<'_, R> {
         begins: Beginning,
     ) -> ParseResult<Chain>
         requires { Begins begins (state_of shared.old) × (is_plain begins ≡ true) }
-        ensures reads { Reads self.now frame.now settings 0 primary chain_view shared.old result shared.new }
+        ensures reads { Reads self.now frame.now settings 0 what.Primary chain_view shared.old result shared.new }
         ensures counts { shared.new.counts ≡ shared.old.counts }
     {
         let alloc = self.engine.alloc();

@@ -24,7 +24,7 @@ use Rattle.rhai_grammar.specs.declared.role.Bars.{Bars}
 use Rattle.rhai_grammar.specs.declared.role.Bars.TheVariants as bars
 use Rattle.rhai_grammar.specs.Productions.{Production, apart}
 use Rattle.rhai_grammar.specs.Rules.{captured, closure_added, closure_by, closure_end, closure_of}
-use Rattle.rhai_grammar_reading.specs.Reading.{Add, Closure, Ret, ClosureBody, Fail, Note, Parameters, run}
+use Rattle.rhai_grammar_reading.specs.Reading.{In, Add, Closure, Ret, ClosureBody, Fail, Note, Parameters, run}
 use Rattle.rhai_grammar_reading.specs.Running as R
 use Rattle.rhai_grammar_reading.specs.Running.{Caller, Done, Fails, Gives, adding, Out, Progress, and_then, exec}
 use Rattle.rhai_grammar_reading.specs.Running.{guarded, nested, result_of, with_captured}
@@ -59,21 +59,21 @@ context_inside engine outer inner here deeper filtered knows begun raised =
 
 -- what follows the parameters
 abbrev pub after : (c : Context) (w : Live) (at : Position) (by : Bars) (s : Progress) → List Text → Progress → Out Node
-after c w at by s names t = exec (guarded (Closure c w at by) s) (run (closure_of c w at names)) t
+after c w at by s names t = exec (guarded (In (Closure at by) c w) s) (run (closure_of c w at names)) t
 
 begin_by : (c : Context) (w : Live) (at : Position) (by : Bars) (s : Progress)
-    → exec (guarded (Closure c w at by) s) (run (closure_by c w at by)) s ≡ and_then (closure_parameters by s) (after c w at by s)
+    → exec (guarded (In (Closure at by) c w) s) (run (closure_by c w at by)) s ≡ and_then (closure_parameters by s) (after c w at by s)
 begin_by c w at bars.Pair s = refl
 begin_by c w at bars.List s =
     ap (λ o. and_then o (after c w at bars.List s))
-    (guarded_is (Closure c w at bars.List) s (Parameters lists.ClosureParameters [] []) s (omega arith))
+    (guarded_is (In (Closure at bars.List) c w) s (Parameters lists.ClosureParameters [] []) s (omega arith))
 
 -- a closure may begin
 pub begun_runs : (c : Context) (w : Live) (at : Position) (by : Bars) (s : Progress) → may_begin c s.library ≡ true
-    → result_of (Closure c w at by) s ≡ and_then (closure_parameters by s) (after c w at by s)
+    → result_of (In (Closure at by) c w) s ≡ and_then (closure_parameters by s) (after c w at by s)
 begun_runs c w at by s fits =
-    step_closure c w at by s
-    ∙ ap (λ b. exec (guarded (Closure c w at by) s) (if b then run (closure_by c w at by) else Fail (refusal cause.TooManyFunctions at)) s) fits
+    step_closure at by c w s
+    ∙ ap (λ b. exec (guarded (In (Closure at by) c w) s) (if b then run (closure_by c w at by) else Fail (refusal cause.TooManyFunctions at)) s) fits
     ∙ begin_by c w at by s
 
 -- A closure has parameters, and its level may be raised, in a context of its own with what is live there.
@@ -88,37 +88,37 @@ pub record Begun (c : Context) (w : Live) (at : Position) (by : Bars) (d : Conte
 -- what follows the body
 abbrev pub ends : (c : Context) (w : Live) (at : Position) (by : Bars) (names : List Text) (s t : Progress) → node.Statement → Progress → Out Node
 ends c w at by names s t f u =
-    exec (guarded (Closure c w at by) s) (run (closure_end c w at names f u.captured (closure_count u.library))) (with_captured t.captured u)
+    exec (guarded (In (Closure at by) c w) s) (run (closure_end c w at names f u.captured (closure_count u.library))) (with_captured t.captured u)
 
 pub body_runs : (c : Context) (w : Live) (at : Position) (by : Bars) (d : Context) (l : Live) (names : List Text) (s t : Progress)
     → Begun c w at by d l names s t
-    → result_of (Closure c w at by) s
-    ≡ and_then (nested (result_of (ClosureBody d l)) (with_captured [] t)) (ends c w at by names s t)
+    → result_of (In (Closure at by) c w) s
+    ≡ and_then (nested (result_of (In ClosureBody d l)) (with_captured [] t)) (ends c w at by names s t)
 body_runs c w at by d l names s t h =
-    let call = guarded (Closure c w at by) s in
-    let inside = run (apart (ClosureBody (level_up (in_closure c w)) (parameters_live names)) (closure_end c w at names)) in
+    let call = guarded (In (Closure at by) c w) s in
+    let inside = run (apart (In ClosureBody (level_up (in_closure c w)) (parameters_live names)) (closure_end c w at names)) in
     begun_runs c w at by s h.fits
     ∙ ap (λ o. and_then o (after c w at by s)) h.parameters
     ∙ ap (λ b. exec call (if b then inside else Fail (refusal cause.ExprTooDeep at)) t) h.room
     ∙ ap (λ o. and_then o (ends c w at by names s t)) (
-    nested_is (Closure c w at by) s (ClosureBody (level_up (in_closure c w)) (parameters_live names)) (with_captured [] t)
+    nested_is (In (Closure at by) c w) s (In ClosureBody (level_up (in_closure c w)) (parameters_live names)) (with_captured [] t)
     (omega (arith, h.shorter))
-    ∙ ap (λ e. nested (result_of (ClosureBody e (parameters_live names))) (with_captured [] t)) (sym h.context)
-    ∙ ap (λ k. nested (result_of (ClosureBody d k)) (with_captured [] t)) (sym h.live))
+    ∙ ap (λ e. nested (result_of (In ClosureBody e (parameters_live names))) (with_captured [] t)) (sym h.context)
+    ∙ ap (λ k. nested (result_of (In ClosureBody d k)) (with_captured [] t)) (sym h.live))
 
 -- the parameters are refused
 pub parameters_fail : (c : Context) (w : Live) (at : Position) (by : Bars) (s : Progress) → may_begin c s.library ≡ true
-    → (e : ParseError) (t : Progress) → Fails (closure_parameters by s) e t → Fails (result_of (Closure c w at by) s) e t
+    → (e : ParseError) (t : Progress) → Fails (closure_parameters by s) e t → Fails (result_of (In (Closure at by) c w) s) e t
 parameters_fail c w at by s fits e t fails =
     (λ told. begun_runs c w at by s fits ∙ ap (λ o. and_then o (after c w at by s)) (fails.0 told), fails.1)
 
 -- there is no level for the body
 pub raise_fails : (c : Context) (w : Live) (at : Position) (by : Bars) (names : List Text) (s t : Progress)
     → may_begin c s.library ≡ true → closure_parameters by s ≡ Done names t → may_raise (in_closure c w) ≡ false
-    → result_of (Closure c w at by) s ≡ R.Refused (refusal cause.ExprTooDeep at) t
+    → result_of (In (Closure at by) c w) s ≡ R.Refused (refusal cause.ExprTooDeep at) t
 raise_fails c w at by names s t fits parameters room =
-    let call = guarded (Closure c w at by) s in
-    let inside = run (apart (ClosureBody (level_up (in_closure c w)) (parameters_live names)) (closure_end c w at names)) in
+    let call = guarded (In (Closure at by) c w) s in
+    let inside = run (apart (In ClosureBody (level_up (in_closure c w)) (parameters_live names)) (closure_end c w at names)) in
     begun_runs c w at by s fits
     ∙ ap (λ o. and_then o (after c w at by s)) parameters
     ∙ ap (λ b. exec call (if b then inside else Fail (refusal cause.ExprTooDeep at)) t) room
@@ -126,17 +126,17 @@ raise_fails c w at by names s t fits parameters room =
 -- the body is refused
 pub body_fails : (c : Context) (w : Live) (at : Position) (by : Bars) (d : Context) (l : Live) (names : List Text) (s t : Progress)
     → Begun c w at by d l names s t
-    → (e : ParseError) (u : Progress) → Fails (nested (result_of (ClosureBody d l)) (with_captured [] t)) e u
-    → Fails (result_of (Closure c w at by) s) e u
+    → (e : ParseError) (u : Progress) → Fails (nested (result_of (In ClosureBody d l)) (with_captured [] t)) e u
+    → Fails (result_of (In (Closure at by) c w) s) e u
 body_fails c w at by d l names s t h e u fails =
     (λ told. body_runs c w at by d l names s t h ∙ ap (λ o. and_then o (ends c w at by names s t)) (fails.0 told), fails.1)
 
 -- the body is read
 pub body_gives : {X : Type 0} (view : X → Node) (c : Context) (w : Live) (at : Position) (by : Bars) (d : Context) (l : Live) (names : List Text) (s t : Progress)
     → Begun c w at by d l names s t
-    → (f : node.Statement) (u : Progress) → nested (result_of (ClosureBody d l)) (with_captured [] t) ≡ Done f u
+    → (f : node.Statement) (u : Progress) → nested (result_of (In ClosureBody d l)) (with_captured [] t) ≡ Done f u
     → (r : Result X ParseError) (v : Progress) → Gives view (ends c w at by names s t f u) r v
-    → Gives view (result_of (Closure c w at by) s) r v
+    → Gives view (result_of (In (Closure at by) c w) s) r v
 body_gives view c w at by d l names s t h f u done r v gives =
     gives_so view r v (body_runs c w at by d l names s t h ∙ ap (λ o. and_then o (ends c w at by names s t)) done) gives
 
@@ -161,10 +161,10 @@ captured_refused call c w u us p s may =
 -- what follows the body, by what the code has
 pub ends_gives : {X : Type 0} (view : X → Node) (c : Context) (w : Live) (at : Position) (by : Bars) (names : List Text) (s t : Progress) (f : node.Statement) (u : Progress)
     → (us : List Use) (x : Progress) (r : Result X ParseError) (v : Progress) → us ≡ u.captured → x ≡ with_captured t.captured u
-    → Gives view (exec (guarded (Closure c w at by) s) (run (closure_end c w at names f us (closure_count x.library))) x) r v
+    → Gives view (exec (guarded (In (Closure at by) c w) s) (run (closure_end c w at names f us (closure_count x.library))) x) r v
     → Gives view (ends c w at by names s t f u) r v
 ends_gives view c w at by names s t f u us x r v same back gives =
-    let call = guarded (Closure c w at by) s in
+    let call = guarded (In (Closure at by) c w) s in
     gives_so view r v (
     ap (λ n. exec call (run (closure_end c w at names f n (closure_count u.library))) (with_captured t.captured u)) (sym same)
     ∙ ap (λ (y : Progress). exec call (run (closure_end c w at names f us (closure_count y.library))) y) (sym back)) gives

@@ -21,11 +21,11 @@ use Rattle.rhai_parser_shared.specs.Engines.{EngineValue}
 -- a closure after its first token, where the settings stand
 abbrev pub closure : Bars → EngineValue → FrameValue → ParseSettings → Goal
 closure by engine frame settings =
-    reading.Closure (context_of engine frame settings) (live_of frame) settings.pos by
+    reading.In (reading.Closure settings.pos by) (context_of engine frame settings) (live_of frame)
 
 -- the body of a closure, in a frame of its own
 abbrev pub closure_body : EngineValue → FrameValue → ParseSettings → Goal
-closure_body engine frame settings = reading.ClosureBody (context_of engine frame settings) (live_of frame)
+closure_body engine frame settings = reading.In reading.ClosureBody (context_of engine frame settings) (live_of frame)
 
 -- what the parameters of a closure come to
 abbrev pub closure_parameters : Bars → Progress → Out (List Text)

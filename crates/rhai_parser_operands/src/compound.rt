@@ -3,7 +3,8 @@
 ghost use Rattle.std.specs.Prelude.{◌≡◌, false};
 ghost use Rattle.rhai_grammar.specs.Beginnings.{beginning};
 ghost use Rattle.rhai_parser_shared.specs.PlainPrimaries.{is_plain};
-ghost use Rattle.rhai_parser_shared.specs.Readers.{primary, state_of};
+ghost use Rattle.rhai_grammar.specs.Goals as what;
+ghost use Rattle.rhai_parser_shared.specs.Readers.{state_of};
 ghost use Rattle.rhai_grammar_reading.specs.Running.{next_item};
 ghost use Rattle.rhai_trees.specs.Chains.{chain_view};
 ghost use Rattle.rhai_parser_operands.specs.Readers.{Lends, Reads};
@@ -31,8 +32,8 @@ impl<R: LentReaders> Reader<'_, R> {
         settings: ParseSettings,
     ) -> ParseResult<Chain>
         requires compound { is_plain (beginning (next_item (state_of shared.old)).lexeme) ≡ false }
-        requires lent { Lends R.lent self.now primary frame.now settings shared.old }
-        ensures { Reads self.now frame.now settings 1 primary chain_view shared.old result shared.new }
+        requires lent { Lends R.lent self.now what.Primary frame.now settings shared.old }
+        ensures { Reads self.now frame.now settings 1 what.Primary chain_view shared.old result shared.new }
     {
         let alloc = self.engine.alloc();
         let (token, pos) = peek(shared.input)?;

@@ -1,7 +1,8 @@
 //! The readers of arrays, of object maps and of interpolated strings.
 
 ghost use Rattle.rhai_lower.specs.Nodes.{no_nodes, no_properties};
-ghost use Rattle.rhai_parser_shared.specs.Readers.{elements, fields, properties_of};
+ghost use Rattle.rhai_grammar.specs.Goals as what;
+ghost use Rattle.rhai_parser_shared.specs.Readers.{properties_of};
 ghost use Rattle.rhai_parser_shared.specs.Readers.{views_of};
 ghost use Rattle.rhai_parser_operands.specs.Readers.{Lends, Reads, segments_after};
 
@@ -31,8 +32,8 @@ impl<R: LentReaders> Reader<'_, R> {
         frame: &Frame<'_>,
         settings: ParseSettings,
     ) -> ParseResult<Vec<Expr>>
-        requires lent { Lends R.lent self.now (elements no_nodes) frame.now settings shared.old }
-        ensures { Reads self.now frame.now settings 0 (elements no_nodes) views_of shared.old result shared.new }
+        requires lent { Lends R.lent self.now (what.Elements settings.pos no_nodes) frame.now settings shared.old }
+        ensures { Reads self.now frame.now settings 0 (what.Elements settings.pos no_nodes) views_of shared.old result shared.new }
     {
         let limit = self.engine.max_array_size();
         let mut items = Vec::new(self.engine.alloc());
@@ -64,8 +65,8 @@ impl<R: LentReaders> Reader<'_, R> {
         frame: &Frame<'_>,
         settings: ParseSettings,
     ) -> ParseResult<Vec<(Ident, Expr)>>
-        requires lent { Lends R.lent self.now (fields no_properties) frame.now settings shared.old }
-        ensures { Reads self.now frame.now settings 0 (fields no_properties) properties_of shared.old result
+        requires lent { Lends R.lent self.now (what.Fields settings.pos no_properties) frame.now settings shared.old }
+        ensures { Reads self.now frame.now settings 0 (what.Fields settings.pos no_properties) properties_of shared.old result
             shared.new }
     {
         let mut properties = NamedList::new(self.engine.alloc());
@@ -93,8 +94,8 @@ impl<R: LentReaders> Reader<'_, R> {
         settings: ParseSettings,
         first: RcStr,
     ) -> ParseResult<Vec<Expr>>
-        requires lent { Lends R.lent self.now (segments_after first) frame.now settings shared.old }
-        ensures { Reads self.now frame.now settings 0 (segments_after first) views_of shared.old result shared.new }
+        requires lent { Lends R.lent self.now (segments_after first settings.pos) frame.now settings shared.old }
+        ensures { Reads self.now frame.now settings 0 (segments_after first settings.pos) views_of shared.old result shared.new }
     {
         let mut segments = Vec::new(self.engine.alloc());
         push_text(&mut segments, first, settings.pos)?;

@@ -47,11 +47,10 @@ pub record TakesPart (engine : EngineValue) (frame : FrameValue) (settings : Par
       → Gives view (exec (guarded g s) program (state_of old)) result (state_of new)
 
 -- What a reader of this goal promises, and that this holds of what it returns.
-pub record ReadsSuch (engine : EngineValue) (frame : FrameValue) (settings : ParseSettings) (height : ℕ)
-    (goal : EngineValue → FrameValue → ParseSettings → Goal) {X : Type 0}
-    (view : X → Val (goal engine frame settings)) (holds : X → Type 0) (old : Shared) (result : Result X ParseError)
-    (new : Shared) : Type 0 where
+pub record ReadsSuch (engine : EngineValue) (frame : FrameValue) (settings : ParseSettings) (height : ℕ) (goal : Goal)
+    {X : Type 0} (view : X → Val goal) (holds : X → Type 0) (old : Shared) (result : Result X ParseError) (new : Shared)
+    : Type 0 where
   pub goes_on : GoesOn old new
   pub stays : Stays engine frame settings height old new
-  pub reads : ReadsGoal (goal engine frame settings) view old result new
+  pub reads : ReadsGoal goal view old result new
   pub such : IfOk result holds

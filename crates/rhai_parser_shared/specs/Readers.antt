@@ -14,17 +14,13 @@ use Rattle.rhai_lower.specs.declared.stmt.Stmt.{Stmt}
 use Rattle.rhai_lower.specs.declared.position.Position.{Position}
 use Rattle.rhai_grammar.specs.Comments.{Comment}
 use Rattle.rhai_grammar.specs.Contexts.{Live}
-use Rattle.rhai_grammar.specs.declared.role.Closing.{Closing}
-use Rattle.rhai_grammar.specs.declared.role.Construct.{Construct}
-use Rattle.rhai_grammar.specs.declared.role.OperandRole.{OperandRole}
 use Rattle.rhai_grammar.specs.Cursors.{Cursor, cursor_of, left}
 use Rattle.rhai_grammar.specs.Libraries.{Ended}
 use Rattle.rhai_grammar.specs.declared.key.FnKey.{FnKey}
 use Rattle.rhai_grammar.specs.Spots.{spot_after_operand}
-use Rattle.rhai_grammar.specs.Switches.{Collected}
 use Rattle.rhai_grammar.specs.declared.error.ParseError.{ParseError}
 use Rattle.rhai_grammar_reading.specs.Reading as reading
-use Rattle.rhai_grammar_reading.specs.Reading.{Goal, Val}
+use Rattle.rhai_grammar_reading.specs.Reading.{Given, Goal, Val, What}
 use Rattle.rhai_grammar_reading.specs.Running.{Gives, Progress, need, nested, result_of}
 use Rattle.rhai_grammar_reading.specs.Nesting.{Nesting}
 use Rattle.rhai_base.specs.Comments.{comments_of}
@@ -41,193 +37,21 @@ use Rattle.rhai_parser_shared.specs.Frames.{context_of, live_of}
 use Rattle.rhai_parser_shared.specs.Heights.{Stays}
 use Rattle.rhai_parser_shared.specs.declared.shared.Shared.{Shared}
 
--- ---- what is read, by the engine, the frame and the settings that it is read under; before these stands what else
--- it depends on
+-- ---- what is read
 
--- an expression up to the end mark
-abbrev pub whole : EngineValue → FrameValue → ParseSettings → Goal
-whole engine frame settings = reading.Whole (context_of engine frame settings) (live_of frame)
-
-abbrev pub expression : EngineValue → FrameValue → ParseSettings → Goal
-expression engine frame settings = reading.Expression (context_of engine frame settings) (live_of frame)
-
--- a written operand with its signs and its call
-abbrev pub operand : EngineValue → FrameValue → ParseSettings → Goal
-operand engine frame settings = reading.Operand (context_of engine frame settings) (live_of frame)
-
--- an operand of this role after an operator
-abbrev pub right_operand : OperandRole → EngineValue → FrameValue → ParseSettings → Goal
-right_operand place engine frame settings =
-    reading.RightOperand (context_of engine frame settings) (live_of frame) place
-
-abbrev pub primary : EngineValue → FrameValue → ParseSettings → Goal
-primary engine frame settings = reading.Primary (context_of engine frame settings) (live_of frame)
-
--- what calls an operand, if it is a variable
-abbrev pub postfix : (operand : Node) → EngineValue → FrameValue → ParseSettings → Goal
-postfix operand engine frame settings = reading.Postfix (context_of engine frame settings) (live_of frame) operand
-
--- what calls a name, which may have a path
-abbrev pub called : (qualified : Bool) → EngineValue → FrameValue → ParseSettings → Goal
-called qualified engine frame settings =
-    reading.Called (context_of engine frame settings) (live_of frame) settings.pos qualified
-
--- the arguments after a `(`
-abbrev pub arguments : EngineValue → FrameValue → ParseSettings → Goal
-arguments engine frame settings = reading.Arguments (context_of engine frame settings) (live_of frame) settings.pos
-
--- an argument, and those that follow, after these
-abbrev pub items : (before : Nodes) → EngineValue → FrameValue → ParseSettings → Goal
-items before engine frame settings = reading.Items (context_of engine frame settings) (live_of frame) before
-
--- the items of an array, after these
-abbrev pub elements : (before : Nodes) → EngineValue → FrameValue → ParseSettings → Goal
-elements before engine frame settings =
-    reading.Elements (context_of engine frame settings) (live_of frame) settings.pos before
-
--- the properties of an object map, after these
-abbrev pub fields : (before : Properties) → EngineValue → FrameValue → ParseSettings → Goal
-fields before engine frame settings =
-    reading.Fields (context_of engine frame settings) (live_of frame) settings.pos before
-
--- the blocks and texts of an interpolated string, after these segments
-abbrev pub segments : (before : Nodes) → EngineValue → FrameValue → ParseSettings → Goal
-segments before engine frame settings =
-    reading.Segments (context_of engine frame settings) (live_of frame) settings.pos before
-
--- what follows `return`, `throw` or `break`
-abbrev pub jump : EngineValue → FrameValue → ParseSettings → Goal
-jump engine frame settings = reading.Jump (context_of engine frame settings) (live_of frame) settings.pos
+-- this, by the engine, the frame and the settings that it is read under
+abbrev pub under : What → EngineValue → FrameValue → ParseSettings → Goal
+under what engine frame settings = reading.In what (context_of engine frame settings) (live_of frame)
 
 -- the links after an operand
 abbrev pub links : (root : Node) → EngineValue → FrameValue → ParseSettings → Goal
 links root engine frame settings =
     reading.Links (live_of frame) (spot_after_operand (context_of engine frame settings) root)
 
--- the index in a bracket; whose index it is, if that is tested
-abbrev pub index : (indexed : Option Node) → EngineValue → FrameValue → ParseSettings → Goal
-index indexed engine frame settings = reading.Index (context_of engine frame settings) (live_of frame) indexed
-
--- the member after a dot
-abbrev pub member : EngineValue → FrameValue → ParseSettings → Goal
-member engine frame settings = reading.Member (context_of engine frame settings) (live_of frame)
-
--- the operators after a left operand that go on with a run of this strength
-abbrev pub binary_op : (at : Position) (parent : ℕ) (lhs : Node) → EngineValue → FrameValue → ParseSettings → Goal
-binary_op at parent lhs engine frame settings =
-    reading.BinaryOp (context_of engine frame settings) (live_of frame) at parent lhs
-
--- an expression or an assignment
-abbrev pub expr_statement : EngineValue → FrameValue → ParseSettings → Goal
-expr_statement engine frame settings = reading.ExprStatement (context_of engine frame settings) (live_of frame)
-
--- the name of a definition
-abbrev pub var_name : EngineValue → FrameValue → ParseSettings → Goal
-var_name engine frame settings = reading.VarName (context_of engine frame settings) (live_of frame)
-
--- the value of a definition
-abbrev pub initializer : EngineValue → FrameValue → ParseSettings → Goal
-initializer engine frame settings =
-    reading.Initializer (context_of engine frame settings) (live_of frame) settings.pos
-
--- a definition after its keyword
-abbrev pub definition : (constant exported : Bool) → EngineValue → FrameValue → ParseSettings → Goal
-definition constant exported engine frame settings =
-    reading.Definition (context_of engine frame settings) (live_of frame) settings.pos constant exported
-
--- what follows `import`
-abbrev pub imported : EngineValue → FrameValue → ParseSettings → Goal
-imported engine frame settings =
-    reading.Import (context_of engine frame settings) (live_of frame) settings.pos
-
--- what follows `export`
-abbrev pub exported : EngineValue → FrameValue → ParseSettings → Goal
-exported engine frame settings =
-    reading.Export (context_of engine frame settings) (live_of frame) settings.pos
-
-abbrev pub statement : EngineValue → FrameValue → ParseSettings → Goal
-statement engine frame settings = reading.Statement (context_of engine frame settings) (live_of frame)
-
--- the statements of a list, after these
-abbrev pub statements : Closing → (before : Statements) → EngineValue → FrameValue → ParseSettings → Goal
-statements closing before engine frame settings =
-    reading.Statements closing (context_of engine frame settings) (live_of frame) before
-
--- the statements of a block, up to its `}`
-abbrev pub inside : EngineValue → FrameValue → ParseSettings → Goal
-inside engine frame settings = reading.Inside (context_of engine frame settings) (live_of frame)
-
--- a block after its `{`
-abbrev pub block : EngineValue → FrameValue → ParseSettings → Goal
-block engine frame settings = reading.Block (context_of engine frame settings) (live_of frame) settings.pos
-
--- a construct of this kind after its first token
-abbrev pub construct : Construct → EngineValue → FrameValue → ParseSettings → Goal
-construct kind engine frame settings =
-    reading.Construct (context_of engine frame settings) (live_of frame) settings.pos kind
-
--- a block of a construct from its `{`
-abbrev pub braced : EngineValue → FrameValue → ParseSettings → Goal
-braced engine frame settings = reading.Braced (context_of engine frame settings) (live_of frame) settings.pos
-
-abbrev pub guard : EngineValue → FrameValue → ParseSettings → Goal
-guard engine frame settings = reading.Guard (context_of engine frame settings) (live_of frame)
-
--- what `for` goes over
-abbrev pub iterated : EngineValue → FrameValue → ParseSettings → Goal
-iterated engine frame settings = reading.Iterated (context_of engine frame settings) (live_of frame)
-
--- what follows `if`
-abbrev pub conditional : EngineValue → FrameValue → ParseSettings → Goal
-conditional engine frame settings =
-    reading.Conditional (context_of engine frame settings) (live_of frame) settings.pos
-
--- what follows the block of an `if`
-abbrev pub branch : EngineValue → FrameValue → ParseSettings → Goal
-branch engine frame settings = reading.Branch (context_of engine frame settings) (live_of frame) settings.pos
-
--- the arms of `switch`, after those that were collected
-abbrev pub arms : (before : Collected) → EngineValue → FrameValue → ParseSettings → Goal
-arms before engine frame settings =
-    reading.Arms (context_of engine frame settings) (live_of frame) before
-
--- an arm with cases, after those that were collected
-abbrev pub arm : (before : Collected) → EngineValue → FrameValue → ParseSettings → Goal
-arm before engine frame settings = reading.Arm (context_of engine frame settings) (live_of frame) before
-
--- the default arm after its `_`
-abbrev pub default_arm : (default : Position) → EngineValue → FrameValue → ParseSettings → Goal
-default_arm default engine frame settings =
-    reading.DefaultArm (context_of engine frame settings) (live_of frame) default
-
--- the cases of an arm, after these
-abbrev pub cases : (before : Nodes) → EngineValue → FrameValue → ParseSettings → Goal
-cases before engine frame settings =
-    reading.Cases (context_of engine frame settings) (live_of frame) before
-
-abbrev pub case : EngineValue → FrameValue → ParseSettings → Goal
-case engine frame settings = reading.Case (context_of engine frame settings) (live_of frame)
-
--- the guard of an arm, if it has one
-abbrev pub case_guard : EngineValue → FrameValue → ParseSettings → Goal
-case_guard engine frame settings = reading.CaseGuard (context_of engine frame settings) (live_of frame)
-
--- a function with these doc comments, as a statement, after its `fn`, where the settings stand; its `private` or `fn`
--- is at a position
-abbrev pub function_statement : List Comment → (first : Position) (is_private : Bool) → EngineValue → FrameValue
-    → ParseSettings → Goal
-function_statement comments first is_private engine frame settings =
-    reading.FunctionStatement (context_of engine frame settings) (live_of frame) comments first settings.pos
-    is_private
-
 -- a function with these doc comments, in a frame of its own
 abbrev pub function : List Comment → (is_private : Bool) → EngineValue → FrameValue → ParseSettings → Goal
 function comments is_private engine frame settings =
     reading.Function (context_of engine frame settings) comments settings.pos is_private
-
--- what an arm does
-abbrev pub action : EngineValue → FrameValue → ParseSettings → Goal
-action engine frame settings = reading.Action (context_of engine frame settings) (live_of frame)
 
 -- ---- what comes of it
 
@@ -295,27 +119,26 @@ ReadsGoal g view old result new = Gives view (result_of g (state_of old)) result
 abbrev pub NestsGoal : {X : Type 0} (g : Goal) → (X → Val g) → Shared → Result X ParseError → Shared → Type 0
 NestsGoal g view old result new = Gives view (nested (result_of g) (state_of old)) result (state_of new)
 
--- a goal, by the engine, the frame and the settings that it is read under
-abbrev pub Reading : Type 0
-Reading = EngineValue → FrameValue → ParseSettings → Goal
-
 -- What a reader of this goal promises under this engine, frame and settings, if what it returns is seen by view. The
 -- references stay, no ended function is lost, and no more is left to read. The nesting stays in its bounds, where so
 -- many readers may stand on the reader's own level, and an orderly library stays so. And it reads what the goal says.
-pub record ReadsAs (engine : EngineValue) (frame : FrameValue) (settings : ParseSettings) (height : ℕ)
-    (goal : Reading) {X : Type 0} (view : X → Val (goal engine frame settings)) (old : Shared)
-    (result : Result X ParseError) (new : Shared) : Type 0 where
+pub record ReadsAll (engine : EngineValue) (frame : FrameValue) (settings : ParseSettings) (height : ℕ) (goal : Goal)
+    {X : Type 0} (view : X → Val goal) (old : Shared) (result : Result X ParseError) (new : Shared) : Type 0 where
   pub goes_on : GoesOn old new
   pub stays : Stays engine frame settings height old new
-  pub reads : ReadsGoal (goal engine frame settings) view old result new
+  pub reads : ReadsGoal goal view old result new
+
+-- The same where this is read.
+abbrev pub ReadsAs : (engine : EngineValue) (frame : FrameValue) (settings : ParseSettings) (height : ℕ) (what : What)
+    {X : Type 0} → (X → Given what) → Shared → Result X ParseError → Shared → Type 0
+ReadsAs engine frame settings height what = ReadsAll engine frame settings height (under what engine frame settings)
 
 -- The same of a reader that counts.
-pub record NestsAs (engine : EngineValue) (frame : FrameValue) (settings : ParseSettings) (height : ℕ)
-    (goal : Reading) {X : Type 0} (view : X → Val (goal engine frame settings)) (old : Shared)
-    (result : Result X ParseError) (new : Shared) : Type 0 where
+pub record NestsAs (engine : EngineValue) (frame : FrameValue) (settings : ParseSettings) (height : ℕ) (what : What)
+    {X : Type 0} (view : X → Given what) (old : Shared) (result : Result X ParseError) (new : Shared) : Type 0 where
   pub goes_on : GoesOn old new
   pub stays : Stays engine frame settings height old new
-  pub reads : NestsGoal (goal engine frame settings) view old result new
+  pub reads : NestsGoal (under what engine frame settings) view old result new
 
 -- Calls of each need below that of this goal may be made.
 abbrev pub Covers : (ℕ → Type 0) → Goal → Shared → Type 0

@@ -1,7 +1,8 @@
 //! The reader of blocks, after their `{`.
 
 ghost use Rattle.rhai_lower.specs.View.{block_view};
-ghost use Rattle.rhai_parser_shared.specs.Readers.{Covers, ReadsAs, block};
+ghost use Rattle.rhai_grammar.specs.Goals as what;
+ghost use Rattle.rhai_parser_shared.specs.Readers.{Covers, ReadsAs, under};
 
 use crate::config::Config;
 use crate::lent::LentReaders;
@@ -23,8 +24,8 @@ pub fn parse_block<R: LentReaders>(
     frame: &Frame<'_>,
     settings: ParseSettings,
 ) -> ParseResult<StmtBlock>
-    requires lent { Covers (R.lent readers.now) (block engine.now frame.now settings) shared.old }
-    ensures { ReadsAs engine.now frame.now settings 3 block block_view shared.old result shared.new }
+    requires lent { Covers (R.lent readers.now) (under (what.Block settings.pos) engine.now frame.now settings) shared.old }
+    ensures { ReadsAs engine.now frame.now settings 3 (what.Block settings.pos) block_view shared.old result shared.new }
 {
     let statements = readers.parse_block_inside(engine, shared, frame, settings)?;
     let end = end_block(engine.alloc(), shared.input)?;

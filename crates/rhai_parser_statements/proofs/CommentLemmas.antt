@@ -16,7 +16,7 @@ use Rattle.rhai_grammar.specs.declared.role.StatementStart.{StatementStart}
 use Rattle.rhai_grammar.specs.declared.role.StatementStart.TheVariants as start
 use Rattle.rhai_grammar.specs.Comments.{comment_of as comment_at}
 use Rattle.rhai_grammar.specs.Rules.{comments_of as comments_after, documented, documented_by, fn_of, statement_by}
-use Rattle.rhai_grammar_reading.specs.Reading.{Call, Comments, Fail, FunctionStatement, Goal, Peek, Prog, Ret}
+use Rattle.rhai_grammar_reading.specs.Reading.{In, Call, Comments, Fail, FunctionStatement, Goal, Peek, Prog, Ret}
 use Rattle.rhai_grammar_reading.specs.Reading.{Statement, Take}
 use Rattle.rhai_grammar_reading.specs.Reading.{run, run_from}
 use Rattle.rhai_parser_statements.specs.Readers.{fn_on, private_on, seen}
@@ -50,10 +50,10 @@ comment_taken before s t x readable comment same took short =
 -- a function whose `fn` is taken
 pub plain_read : (h : Goal) (s : Progress) (c : Context) (w : Live) (cs : List Comment) (at : Position) (old taken : Progress) → is_memory (next_item old).lexeme ≡ false
     → taken ≡ after_take old → left taken.cursor.tokens + 1 ≤ left old.cursor.tokens → left old.cursor.tokens ≤ left s.cursor.tokens
-    → exec (guarded h s) (fn_on c w cs at) old ≡ nested (result_of (FunctionStatement c w cs at at false)) taken
+    → exec (guarded h s) (fn_on c w cs at) old ≡ nested (result_of (In (FunctionStatement cs at at false) c w)) taken
 plain_read h s c w cs at old taken readable took short within =
     let call = guarded h s in
-    let inside = FunctionStatement c w cs at at false in
+    let inside = In (FunctionStatement cs at at false) c w in
     ap (λ m. if m then R.Refused out_of_memory (after_peek old) else exec call (run (fn_of c w cs at)) (after_take old)) readable
     ∙ ap (λ (u : Progress). exec call (run (fn_of c w cs at)) u) (sym took)
     ∙ and_then_done (nested (call inside) taken)
@@ -62,9 +62,9 @@ plain_read h s c w cs at old taken readable took short within =
 -- a statement that begins so
 pub statement_starts : (c d : Context) (w : Live) (k : StatementStart) (s looked : Progress) → is_memory (next_item s).lexeme ≡ false
     → statement_start c (next_item s).lexeme ≡ k → c ≡ d → looked ≡ after_peek s
-    → result_of (Statement c w) s ≡ exec (guarded (Statement c w) s) (run_from (statement_by d w k) (seen s)) looked
+    → result_of (In Statement c w) s ≡ exec (guarded (In Statement c w) s) (run_from (statement_by d w k) (seen s)) looked
 statement_starts c d w k s looked readable begins context look =
-    let call = guarded (Statement c w) s in
+    let call = guarded (In Statement c w) s in
     let l = (next_item s).lexeme in
     step_statement c w s
     ∙ ap (λ m. if m then R.Refused out_of_memory (after_peek s) else exec call (run_from (statement_by c w (statement_start c l)) (seen s)) (after_peek s)) readable
@@ -75,17 +75,17 @@ statement_starts c d w k s looked readable begins context look =
 -- one that begins with `fn`, or with `private`
 pub function_starts : (c d : Context) (w : Live) (here : Position) (s looked : Progress) → is_memory (next_item s).lexeme ≡ false
     → statement_start c (next_item s).lexeme ≡ start.Function → c ≡ d → (next_item s).at ≡ here → looked ≡ after_peek s
-    → result_of (Statement c w) s ≡ exec (guarded (Statement c w) s) (fn_on d w [] here) looked
+    → result_of (In Statement c w) s ≡ exec (guarded (In Statement c w) s) (fn_on d w [] here) looked
 function_starts c d w here s looked readable begins context stands look =
     statement_starts c d w start.Function s looked readable begins context look
-    ∙ ap (λ (q : Position). exec (guarded (Statement c w) s) (fn_on d w [] q) looked) stands
+    ∙ ap (λ (q : Position). exec (guarded (In Statement c w) s) (fn_on d w [] q) looked) stands
 
 pub private_starts : (c d : Context) (w : Live) (here : Position) (s looked : Progress) → is_memory (next_item s).lexeme ≡ false
     → statement_start c (next_item s).lexeme ≡ start.Private → c ≡ d → (next_item s).at ≡ here → looked ≡ after_peek s
-    → result_of (Statement c w) s ≡ exec (guarded (Statement c w) s) (private_on d w [] here) looked
+    → result_of (In Statement c w) s ≡ exec (guarded (In Statement c w) s) (private_on d w [] here) looked
 private_starts c d w here s looked readable begins context stands look =
     statement_starts c d w start.Private s looked readable begins context look
-    ∙ ap (λ (q : Position). exec (guarded (Statement c w) s) (private_on d w [] q) looked) stands
+    ∙ ap (λ (q : Position). exec (guarded (In Statement c w) s) (private_on d w [] q) looked) stands
 
 -- Doc comments are taken where a statement begins, of which the first one is x, and a token is next that is seen.
 pub record Documented (c : Context) (x : Comment) (cs : List Comment) (s old taken read : Progress) : Type 0 where

@@ -23,7 +23,7 @@ use Rattle.rhai_grammar.specs.declared.role.Calling.{Calling}
 use Rattle.rhai_grammar.specs.declared.role.Calling.TheVariants as calls_by
 use Rattle.rhai_grammar.specs.Productions.{part, raise}
 use Rattle.rhai_grammar.specs.Rules.{function_end, function_on, parameters_by}
-use Rattle.rhai_grammar_reading.specs.Reading.{Fail, Function, FunctionStatement, ParameterList, run, run_from}
+use Rattle.rhai_grammar_reading.specs.Reading.{In, Fail, Function, FunctionStatement, ParameterList, run, run_from}
 use Rattle.rhai_grammar_reading.specs.Running as R
 use Rattle.rhai_grammar_reading.specs.Running.{Done, Fails, Gives, Out, Progress, and_then, next_item, exec, guarded}
 use Rattle.rhai_grammar_reading.specs.Running.{after_peek, nested, result_of}
@@ -85,31 +85,31 @@ pub record Begun (c : Context) (w : Live) (at : Position) (d : Context) (here : 
 -- what follows the function
 abbrev pub after : (c : Context) (w : Live) (cs : List Comment) (first at : Position) (p : Bool) (s : Progress) → Ended → Progress → Out (node.Statement × Live)
 after c w cs first at p s ended t =
-    exec (guarded (FunctionStatement c w cs first at p) s) (run (function_end w at ended)) t
+    exec (guarded (In (FunctionStatement cs first at p) c w) s) (run (function_end w at ended)) t
 
 pub begun_runs : (c : Context) (w : Live) (cs : List Comment) (first at : Position) (p : Bool) (d : Context) (here : Position) (s : Progress) → Begun c w at d here s
-    → result_of (FunctionStatement c w cs first at p) s ≡ and_then (nested (result_of (Function d cs here p)) s) (after c w cs first at p s)
+    → result_of (In (FunctionStatement cs first at p) c w) s ≡ and_then (nested (result_of (Function d cs here p)) s) (after c w cs first at p s)
 begun_runs c w cs first at p d here s h =
-    let call = guarded (FunctionStatement c w cs first at p) s in
+    let call = guarded (In (FunctionStatement cs first at p) c w) s in
     let inside = run (part (Function (level_up (in_function c w)) cs at p) (function_end w at)) in
-    step_function_statement c w cs first at p s
+    step_function_statement cs first at p c w s
     ∙ ap (λ b. exec call (if b then run (function_on c w cs at p) else Fail (refusal cause.WrongFnDefinition first)) s) h.global
     ∙ ap (λ b. exec call (if b then run (raise (in_function c w) at (λ deeper. part (Function deeper cs at p) (function_end w at))) else Fail (refusal cause.TooManyFunctions at)) s) h.fits
     ∙ ap (λ b. exec call (if b then inside else Fail (refusal cause.ExprTooDeep at)) s) h.room
     ∙ ap (λ o. and_then o (after c w cs first at p s)) (
-    nested_is (FunctionStatement c w cs first at p) s (Function (level_up (in_function c w)) cs at p) s (omega arith)
+    nested_is (In (FunctionStatement cs first at p) c w) s (Function (level_up (in_function c w)) cs at p) s (omega arith)
     ∙ ap (λ e. nested (result_of (Function e cs at p)) s) (sym h.context)
     ∙ ap (λ q. nested (result_of (Function d cs q p)) s) (sym h.stands))
 
 pub function_fails : (c : Context) (w : Live) (cs : List Comment) (first at : Position) (p : Bool) (d : Context) (here : Position) (s : Progress) → Begun c w at d here s
     → (e : ParseError) (t : Progress) → Fails (nested (result_of (Function d cs here p)) s) e t
-    → Fails (result_of (FunctionStatement c w cs first at p) s) e t
+    → Fails (result_of (In (FunctionStatement cs first at p) c w) s) e t
 function_fails c w cs first at p d here s h e t fails =
     (λ told. begun_runs c w cs first at p d here s h ∙ ap (λ o. and_then o (after c w cs first at p s)) (fails.0 told), fails.1)
 
 pub function_gives : {X : Type 0} (view : X → node.Statement × Live) (c : Context) (w : Live) (cs : List Comment) (first at : Position) (p : Bool) (d : Context) (here : Position) (s : Progress)
     → Begun c w at d here s → (ended : Ended) (t : Progress) → nested (result_of (Function d cs here p)) s ≡ Done ended t
     → (r : Result X ParseError) (u : Progress) → Gives view (after c w cs first at p s ended t) r u
-    → Gives view (result_of (FunctionStatement c w cs first at p) s) r u
+    → Gives view (result_of (In (FunctionStatement cs first at p) c w) s) r u
 function_gives view c w cs first at p d here s h ended t done r u gives =
     gives_so view r u (begun_runs c w cs first at p d here s h ∙ ap (λ o. and_then o (after c w cs first at p s)) done) gives

@@ -15,7 +15,7 @@ use Rattle.rhai_grammar.specs.declared.due.DueToken.TheVariants as due_token
 use Rattle.rhai_grammar.specs.declared.error.ParseError.{ParseError}
 use Rattle.rhai_lower.specs.declared.position.Position.{Position}
 use Rattle.rhai_grammar.specs.Rules.{arm_ends, arm_on, default_ends}
-use Rattle.rhai_grammar_reading.specs.Reading.{Action, Arm, ArmEnd, CaseGuard, Cases, DefaultArm, DefaultEnd, Fail}
+use Rattle.rhai_grammar_reading.specs.Reading.{In, Action, Arm, ArmEnd, CaseGuard, Cases, DefaultArm, DefaultEnd, Fail}
 use Rattle.rhai_grammar_reading.specs.Reading.{Prog, Take}
 use Rattle.rhai_grammar_reading.specs.Reading.{run}
 use Rattle.rhai_grammar_reading.proofs.Steps.{guarded_is, nested_is, step_arm, step_default_arm}
@@ -69,33 +69,33 @@ default_ended call action ends default s t u (Err e) comma at_close given = (
 
 -- An arm is read up to what it does: its cases, its guard, the `=>`, and that.
 pub record ReadsArm (c : Context) (w : Live) (xs : Nodes) (guard : Node) (does : Node × Bool) (s s1 s2 s3 s4 : Progress) : Type 0 where
-  pub cases : result_of (Cases c w no_nodes) s ≡ R.Done xs s1
-  pub guarding : nested (result_of (CaseGuard c w)) s1 ≡ R.Done guard s2
+  pub cases : result_of (In (Cases no_nodes) c w) s ≡ R.Done xs s1
+  pub guarding : nested (result_of (In CaseGuard c w)) s1 ≡ R.Done guard s2
   pub readable : is_memory (next_item s2).lexeme ≡ false
   pub arrow : is_due due_token.DoubleArrow (next_item s2).lexeme ≡ true
   pub took : s3 ≡ after_take s2
-  pub action : nested (result_of (Action c w)) s3 ≡ R.Done does s4
+  pub action : nested (result_of (In Action c w)) s3 ≡ R.Done does s4
   pub after_cases : left s1.cursor.tokens ≤ left s.cursor.tokens
   pub after_arrow : left s3.cursor.tokens + 1 ≤ left s.cursor.tokens
 
 pub arm_runs : {c : Context} {w : Live} (before : Collected) {xs : Nodes} {guard : Node} {does : Node × Bool} {s s1 s2 s3 s4 : Progress}
     → ReadsArm c w xs guard does s s1 s2 s3 s4
-    → result_of (Arm c w before) s ≡ exec (guarded (Arm c w before) s) (run (arm_on before xs guard does)) s4
+    → result_of (In (Arm before) c w) s ≡ exec (guarded (In (Arm before) c w) s) (run (arm_on before xs guard does)) s4
 arm_runs {c} {w} before {xs} {guard} {does} {s} {s1} {s2} {s3} {s4} h =
-    let g = Arm c w before in
+    let g = In (Arm before) c w in
     let call : Caller = guarded g s in
     let l = (next_item s2).lexeme in
-    let acts : Nodes → Node → Production (Nodes × Node × Node) = λ ys b. part (Action c w) (arm_on before ys b) in
+    let acts : Nodes → Node → Production (Nodes × Node × Node) = λ ys b. part (In Action c w) (arm_on before ys b) in
     let arrow : Nodes → Node → Production (Nodes × Node × Node) = λ ys b. due due_token.DoubleArrow (acts ys b) in
     let wrong : Prog (Nodes × Node × Node) = Fail (refusal (not_due due_token.DoubleArrow l) (next_item s2).at) in
-    step_arm c w before s
-    ∙ ap (λ o. and_then o (λ ys u. exec call (run (part (CaseGuard c w) (arrow ys))) u)) (guarded_is g s (Cases c w no_nodes) s (omega arith) ∙ h.cases)
-    ∙ ap (λ o. and_then o (λ b u. exec call (run (arrow xs b)) u)) (nested_is g s (CaseGuard c w) s1 (omega (arith, h.after_cases)) ∙ h.guarding)
+    step_arm before c w s
+    ∙ ap (λ o. and_then o (λ ys u. exec call (run (part (In CaseGuard c w) (arrow ys))) u)) (guarded_is g s (In (Cases no_nodes) c w) s (omega arith) ∙ h.cases)
+    ∙ ap (λ o. and_then o (λ b u. exec call (run (arrow xs b)) u)) (nested_is g s (In CaseGuard c w) s1 (omega (arith, h.after_cases)) ∙ h.guarding)
     ∙ ap (λ m. if m then R.Refused out_of_memory (after_peek s2) else exec call (if is_due due_token.DoubleArrow l then Take (run (acts xs guard)) else wrong) (after_peek s2)) h.readable
     ∙ ap (λ b. exec call (if b then Take (run (acts xs guard)) else wrong) (after_peek s2)) h.arrow
     ∙ ap (λ m. if m then R.Refused out_of_memory (after_peek (after_peek s2)) else exec call (run (acts xs guard)) (after_take s2)) h.readable
     ∙ ap (λ (u : Progress). exec call (run (acts xs guard)) u) (sym h.took)
-    ∙ ap (λ o. and_then o (λ d u. exec call (run (arm_on before xs guard d)) u)) (nested_is g s (Action c w) s3 (omega (arith, h.after_arrow)) ∙ h.action)
+    ∙ ap (λ o. and_then o (λ d u. exec call (run (arm_on before xs guard d)) u)) (nested_is g s (In Action c w) s3 (omega (arith, h.after_arrow)) ∙ h.action)
 
 -- The default arm is read up to what it does.
 pub record ReadsDefault (c : Context) (w : Live) (does : Node × Bool) (s s1 s2 : Progress) : Type 0 where
@@ -103,22 +103,22 @@ pub record ReadsDefault (c : Context) (w : Live) (does : Node × Bool) (s s1 s2 
   pub unguarded : is_due due_token.If (next_item s).lexeme ≡ false
   pub arrow : is_due due_token.DoubleArrow (next_item s).lexeme ≡ true
   pub took : s1 ≡ after_take s
-  pub action : nested (result_of (Action c w)) s1 ≡ R.Done does s2
+  pub action : nested (result_of (In Action c w)) s1 ≡ R.Done does s2
   pub shorter : left s1.cursor.tokens + 1 ≤ left s.cursor.tokens
 
 pub default_runs : {c : Context} {w : Live} (default : Position) {does : Node × Bool} {s s1 s2 : Progress} → ReadsDefault c w does s s1 s2
-    → result_of (DefaultArm c w default) s ≡ exec (guarded (DefaultArm c w default) s) (run (default_ends default does)) s2
+    → result_of (In (DefaultArm default) c w) s ≡ exec (guarded (In (DefaultArm default) c w) s) (run (default_ends default does)) s2
 default_runs {c} {w} default {does} {s} {s1} {s2} h =
-    let g = DefaultArm c w default in
+    let g = In (DefaultArm default) c w in
     let call : Caller = guarded g s in
     let l = (next_item s).lexeme in
-    let acts : Production Node = part (Action c w) (default_ends default) in
+    let acts : Production Node = part (In Action c w) (default_ends default) in
     let no_guard : Prog Node = Fail (refusal cause.WrongSwitchCaseCondition (next_item s).at) in
     let wrong : Prog Node = Fail (refusal (not_due due_token.DoubleArrow l) (next_item s).at) in
-    step_default_arm c w default s
+    step_default_arm default c w s
     ∙ ap (λ m. if m then R.Refused out_of_memory (after_peek s) else exec call (if is_due due_token.If l then no_guard else if is_due due_token.DoubleArrow l then Take (run acts) else wrong) (after_peek s)) h.readable
     ∙ ap (λ b. exec call (if b then no_guard else if is_due due_token.DoubleArrow l then Take (run acts) else wrong) (after_peek s)) h.unguarded
     ∙ ap (λ b. exec call (if b then Take (run acts) else wrong) (after_peek s)) h.arrow
     ∙ ap (λ m. if m then R.Refused out_of_memory (after_peek (after_peek s)) else exec call (run acts) (after_take s)) h.readable
     ∙ ap (λ (u : Progress). exec call (run acts) u) (sym h.took)
-    ∙ ap (λ o. and_then o (λ d u. exec call (run (default_ends default d)) u)) (nested_is g s (Action c w) s1 (omega (arith, h.shorter)) ∙ h.action)
+    ∙ ap (λ o. and_then o (λ d u. exec call (run (default_ends default d)) u)) (nested_is g s (In Action c w) s1 (omega (arith, h.shorter)) ∙ h.action)

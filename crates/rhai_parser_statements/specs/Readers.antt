@@ -22,7 +22,7 @@ use Rattle.rhai_grammar.specs.declared.role.Construct.{Construct}
 use Rattle.rhai_grammar.specs.declared.role.Construct.TheVariants as construct
 use Rattle.rhai_grammar.specs.declared.role.StatementStart.TheVariants as start
 use Rattle.rhai_grammar.specs.Rules.{fn_of, private_of, statement_by}
-use Rattle.rhai_grammar_reading.specs.Reading.{Prog, Take, Val, run, run_from}
+use Rattle.rhai_grammar_reading.specs.Reading.{Cases, FunctionStatement, Given, Goal, Prog, Take, What, run, run_from}
 use Rattle.rhai_grammar_reading.specs.Running.{Progress, next_item}
 use Rattle.rhai_base.specs.Comments.{comments_of}
 use Rattle.rhai_base.specs.Frames.{FrameValue, SameSurroundings}
@@ -30,43 +30,38 @@ use Rattle.rhai_base.specs.declared.settings.ParseSettings.{ParseSettings}
 use Rattle.rhai_parser_shared.specs.Frames.{context_of, live_of}
 use Rattle.rhai_parser_shared.specs.Heights.{function_height}
 use Rattle.rhai_parser_shared.specs.Parts.{ReadsSuch, TakesPart}
-use Rattle.rhai_parser_shared.specs.Readers.{Covers, NestsAs, Reading, ReadsAs, cases, ended_view, function}
-use Rattle.rhai_parser_shared.specs.Readers.{function_statement, state_of, with_live}
+use Rattle.rhai_parser_shared.specs.Readers.{Covers, NestsAs, ReadsAs, ended_view, function, state_of, under, with_live}
 use Rattle.rhai_parser_shared.specs.declared.shared.Shared.{Shared}
 use Rattle.rhai_parser_statements.specs.Switches.{cases_view}
 use Rattle.rhai_parser_statements.specs.declared.reader.Reader.{Reader}
 
 -- Calls of each need below that of this goal may be made.
-abbrev pub Lends : {R : Type 0} → (R → ℕ → Type 0) → Reader R → Reading → FrameValue → ParseSettings → Shared
+abbrev pub Lends : {R : Type 0} → (R → ℕ → Type 0) → Reader R → What → FrameValue → ParseSettings → Shared
     → Type 0
-Lends lent reader goal frame settings = Covers (lent reader.readers) (goal reader.engine.now frame settings)
+Lends lent reader what frame settings = Covers (lent reader.readers) (under what reader.engine.now frame settings)
 
 -- This goal is read.
 abbrev pub Reads : {R : Type 0} → (reader : Reader R) → (frame : FrameValue) → (settings : ParseSettings) → (height : ℕ)
-    → (goal : Reading) → {X : Type 0} → (X → Val (goal reader.engine.now frame settings))
-    → Shared → Result X ParseError → Shared → Type 0
-Reads reader frame settings height goal view = ReadsAs reader.engine.now frame settings height goal view
+    → (what : What) → {X : Type 0} → (X → Given what) → Shared → Result X ParseError → Shared → Type 0
+Reads reader frame settings height what view = ReadsAs reader.engine.now frame settings height what view
 
 -- The same of a reader that counts.
 abbrev pub Nests : {R : Type 0} → (reader : Reader R) → (frame : FrameValue) → (settings : ParseSettings) → (height : ℕ)
-    → (goal : Reading) → {X : Type 0} → (X → Val (goal reader.engine.now frame settings))
-    → Shared → Result X ParseError → Shared → Type 0
-Nests reader frame settings height goal view = NestsAs reader.engine.now frame settings height goal view
+    → (what : What) → {X : Type 0} → (X → Given what) → Shared → Result X ParseError → Shared → Type 0
+Nests reader frame settings height what view = NestsAs reader.engine.now frame settings height what view
 
 -- The same of a reader that takes a token where it succeeds.
 abbrev pub Takes : {R : Type 0} → (reader : Reader R) → (frame : FrameValue) → (settings : ParseSettings) → (height : ℕ)
-    → (goal : Reading) → {X : Type 0} → (X → Val (goal reader.engine.now frame settings))
-    → Shared → Result X ParseError → Shared → Type 0
-Takes reader frame settings height goal view old result new =
-    ReadsSuch reader.engine.now frame settings height goal view
+    → (what : What) → {X : Type 0} → (X → Given what) → Shared → Result X ParseError → Shared → Type 0
+Takes reader frame settings height what view old result new =
+    ReadsSuch reader.engine.now frame settings height (under what reader.engine.now frame settings) view
     (λ x. left (state_of new).cursor.tokens + 1 ≤ left (state_of old).cursor.tokens) old result new
 
 -- The same of a reader that may define in its frame: what is around the frame stays.
 abbrev pub Defines : {R : Type 0} → (reader : Reader R) → (before after : FrameValue) → (settings : ParseSettings)
-    → (height : ℕ) → (goal : Reading) → {X : Type 0} → (X → Val (goal reader.engine.now before settings))
-    → Shared → Result X ParseError → Shared → Type 0
-Defines reader before after settings height goal view old result new =
-    ReadsAs reader.engine.now before settings height goal view old result new × SameSurroundings before after
+    → (height : ℕ) → (what : What) → {X : Type 0} → (X → Given what) → Shared → Result X ParseError → Shared → Type 0
+Defines reader before after settings height what view old result new =
+    ReadsAs reader.engine.now before settings height what view old result new × SameSurroundings before after
 
 -- the comments before a function
 abbrev Comments : Type 0
@@ -105,23 +100,30 @@ TakesDocumented reader frame settings old =
     (seen (state_of old))) (with_live statement_view frame) old
 
 -- a function as a statement, with these comments before it
-abbrev pub fn_statement : Comments → (first : Position) → (private : Bool) → Reading
-fn_statement comments = function_statement (comments_of comments)
+abbrev pub fn_statement : Comments → (first at : Position) → (private : Bool) → What
+fn_statement comments = FunctionStatement (comments_of comments)
 
 -- a function in a frame of its own, with these comments before it
-abbrev pub fn_alone : Comments → (private : Bool) → Reading
-fn_alone comments = function (comments_of comments)
+abbrev pub fn_alone : {R : Type 0} → Reader R → FrameValue → ParseSettings → Comments → (private : Bool) → Goal
+fn_alone reader frame settings comments private =
+    function (comments_of comments) private reader.engine.now frame settings
+
+-- Calls of each need below that of a function may be made.
+abbrev pub LendsFn : {R : Type 0} → (R → ℕ → Type 0) → Reader R → FrameValue → ParseSettings → Comments
+    → (private : Bool) → Shared → Type 0
+LendsFn lent reader frame settings comments private =
+    Covers (lent reader.readers) (fn_alone reader frame settings comments private)
 
 -- A function is read, whose key is that of no closure.
 abbrev pub ReadsFn : {R : Type 0} → Reader R → FrameValue → ParseSettings → Comments → (private : Bool)
     → Shared → Result (FnKey × Rc ScriptFuncDef Global) ParseError → Shared → Type 0
 ReadsFn reader frame settings comments private =
-    ReadsSuch reader.engine.now frame settings 0 (fn_alone comments private) ended_view
+    ReadsSuch reader.engine.now frame settings 0 (fn_alone reader frame settings comments private) ended_view
     (λ e. is_closure (key_of e.0) ≡ false)
 
 -- the cases of an arm, after these
-abbrev pub cases_after : SmallVec Expr → Reading
-cases_after before = cases (cases_view before)
+abbrev pub cases_after : SmallVec Expr → What
+cases_after before = Cases (cases_view before)
 
 -- a block, which begins with no keyword
 abbrev pub is_block : Construct → Bool

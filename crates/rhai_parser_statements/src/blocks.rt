@@ -3,7 +3,7 @@
 
 ghost use Rattle.rhai_lower.specs.View.{block_view, statement_view};
 ghost use Rattle.rhai_grammar.specs.declared.role.Construct.TheVariants.{Block};
-ghost use Rattle.rhai_parser_shared.specs.Readers.{block, construct};
+ghost use Rattle.rhai_grammar.specs.Goals as what;
 ghost use Rattle.rhai_parser_statements.specs.Readers.{Lends, Nests, Reads};
 
 use crate::reader::Reader;
@@ -25,8 +25,8 @@ impl<R: LentReaders> Reader<'_, R> {
         frame: &Frame<'_>,
         settings: ParseSettings,
     ) -> ParseResult<Stmt>
-        requires lent { Lends R.lent self.now (construct Block) frame.now settings shared.old }
-        ensures { Nests self.now frame.now settings 5 (construct Block) statement_view shared.old result shared.new }
+        requires lent { Lends R.lent self.now (what.Construct settings.pos Block) frame.now settings shared.old }
+        ensures { Nests self.now frame.now settings 5 (what.Construct settings.pos Block) statement_view shared.old result shared.new }
     {
         let block = nested!(
             shared,
@@ -44,8 +44,8 @@ impl<R: LentReaders> Reader<'_, R> {
         frame: &Frame<'_>,
         settings: ParseSettings,
     ) -> ParseResult<StmtBlock>
-        requires lent { Lends R.lent self.now block frame.now settings shared.old }
-        ensures { Reads self.now frame.now settings 3 block block_view shared.old result shared.new }
+        requires lent { Lends R.lent self.now (what.Block settings.pos) frame.now settings shared.old }
+        ensures { Reads self.now frame.now settings 3 (what.Block settings.pos) block_view shared.old result shared.new }
     {
         let statements = nested!(shared, self.parse_block_inside(shared, frame, settings))?;
         let end = end_block(self.engine.alloc(), shared.input)?;

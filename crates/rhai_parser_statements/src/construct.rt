@@ -6,8 +6,7 @@ ghost use Rattle.std.specs.Prelude.{◌≡◌, false};
 ghost use Rattle.rhai_lower.specs.View.{block_view, statement_view, view};
 ghost use Rattle.rhai_grammar.specs.declared.role.Construct.TheVariants.{Do, For, Loop, Try, While};
 ghost use Rattle.rhai_base.specs.Constructs.{loop_view};
-ghost use Rattle.rhai_parser_shared.specs.Readers.{braced, branch, conditional};
-ghost use Rattle.rhai_parser_shared.specs.Readers.{construct, guard, iterated};
+ghost use Rattle.rhai_grammar.specs.Goals as what;
 ghost use Rattle.rhai_parser_statements.specs.Frames.{catch_view, in_catch, in_loop};
 ghost use Rattle.rhai_parser_statements.specs.Readers.{Lends, Reads, is_block};
 
@@ -38,8 +37,8 @@ impl<R: LentReaders> Reader<'_, R> {
         kind: Construct,
     ) -> ParseResult<Stmt>
         requires keyword { is_block kind ≡ false }
-        requires lent { Lends R.lent self.now (construct kind) frame.now settings shared.old }
-        ensures { Reads self.now frame.now settings 4 (construct kind) statement_view shared.old result shared.new }
+        requires lent { Lends R.lent self.now (what.Construct settings.pos kind) frame.now settings shared.old }
+        ensures { Reads self.now frame.now settings 4 (what.Construct settings.pos kind) statement_view shared.old result shared.new }
     {
         match kind {
             Construct::Block => unreachable!(),
@@ -62,8 +61,8 @@ impl<R: LentReaders> Reader<'_, R> {
         frame: &Frame<'_>,
         settings: ParseSettings,
     ) -> ParseResult<Stmt>
-        requires lent { Lends R.lent self.now conditional frame.now settings shared.old }
-        ensures { Reads self.now frame.now settings 2 conditional statement_view shared.old result shared.new }
+        requires lent { Lends R.lent self.now (what.Conditional settings.pos) frame.now settings shared.old }
+        ensures { Reads self.now frame.now settings 2 (what.Conditional settings.pos) statement_view shared.old result shared.new }
     {
         let guard = nested!(shared, self.parse_guard(shared, frame, settings))?;
         let body = nested!(shared, self.parse_braces(shared, frame, settings))?;
@@ -81,8 +80,8 @@ impl<R: LentReaders> Reader<'_, R> {
         frame: &Frame<'_>,
         settings: ParseSettings,
     ) -> ParseResult<StmtBlock>
-        requires lent { Lends R.lent self.now branch frame.now settings shared.old }
-        ensures { Reads self.now frame.now settings 1 branch block_view shared.old result shared.new }
+        requires lent { Lends R.lent self.now (what.Branch settings.pos) frame.now settings shared.old }
+        ensures { Reads self.now frame.now settings 1 (what.Branch settings.pos) block_view shared.old result shared.new }
     {
         if !pass_token(shared.input, DueToken::Else)? {
             return Ok(no_block(self.engine.alloc()));
@@ -105,8 +104,8 @@ impl<R: LentReaders> Reader<'_, R> {
         frame: &Frame<'_>,
         settings: ParseSettings,
     ) -> ParseResult<Expr>
-        requires lent { Lends R.lent self.now guard frame.now settings shared.old }
-        ensures { Reads self.now frame.now settings 1 guard view shared.old result shared.new }
+        requires lent { Lends R.lent self.now what.Guard frame.now settings shared.old }
+        ensures { Reads self.now frame.now settings 1 what.Guard view shared.old result shared.new }
     {
         guard_begins(self.engine.alloc(), shared.input)?;
         let guard = self
@@ -123,8 +122,8 @@ impl<R: LentReaders> Reader<'_, R> {
         frame: &Frame<'_>,
         settings: ParseSettings,
     ) -> ParseResult<Expr>
-        requires lent { Lends R.lent self.now iterated frame.now settings shared.old }
-        ensures { Reads self.now frame.now settings 1 iterated view shared.old result shared.new }
+        requires lent { Lends R.lent self.now what.Iterated frame.now settings shared.old }
+        ensures { Reads self.now frame.now settings 1 what.Iterated view shared.old result shared.new }
     {
         guard_begins(self.engine.alloc(), shared.input)?;
         let over = self
@@ -142,8 +141,8 @@ impl<R: LentReaders> Reader<'_, R> {
         frame: &Frame<'_>,
         settings: ParseSettings,
     ) -> ParseResult<StmtBlock>
-        requires lent { Lends R.lent self.now braced frame.now settings shared.old }
-        ensures { Reads self.now frame.now settings 0 braced block_view shared.old result shared.new }
+        requires lent { Lends R.lent self.now (what.Braced settings.pos) frame.now settings shared.old }
+        ensures { Reads self.now frame.now settings 0 (what.Braced settings.pos) block_view shared.old result shared.new }
     {
         let opening = begin_block(self.engine.alloc(), shared.input, "to begin this block")?;
         let deeper = settings.level_up_with_position(opening)?;
@@ -161,8 +160,8 @@ impl<R: LentReaders> Reader<'_, R> {
         frame: &Frame<'_>,
         settings: ParseSettings,
     ) -> ParseResult<Stmt>
-        requires lent { Lends R.lent self.now (construct While) frame.now settings shared.old }
-        ensures { Reads self.now frame.now settings 4 (construct While) statement_view shared.old result shared.new }
+        requires lent { Lends R.lent self.now (what.Construct settings.pos While) frame.now settings shared.old }
+        ensures { Reads self.now frame.now settings 4 (what.Construct settings.pos While) statement_view shared.old result shared.new }
     {
         let guard = nested!(shared, self.parse_guard(shared, frame, settings))?;
         let body = nested!(
@@ -180,8 +179,8 @@ impl<R: LentReaders> Reader<'_, R> {
         frame: &Frame<'_>,
         settings: ParseSettings,
     ) -> ParseResult<Stmt>
-        requires lent { Lends R.lent self.now (construct Loop) frame.now settings shared.old }
-        ensures { Reads self.now frame.now settings 4 (construct Loop) statement_view shared.old result shared.new }
+        requires lent { Lends R.lent self.now (what.Construct settings.pos Loop) frame.now settings shared.old }
+        ensures { Reads self.now frame.now settings 4 (what.Construct settings.pos Loop) statement_view shared.old result shared.new }
     {
         let body = nested!(
             shared,
@@ -203,8 +202,8 @@ impl<R: LentReaders> Reader<'_, R> {
         frame: &Frame<'_>,
         settings: ParseSettings,
     ) -> ParseResult<Stmt>
-        requires lent { Lends R.lent self.now (construct Do) frame.now settings shared.old }
-        ensures { Reads self.now frame.now settings 4 (construct Do) statement_view shared.old result shared.new }
+        requires lent { Lends R.lent self.now (what.Construct settings.pos Do) frame.now settings shared.old }
+        ensures { Reads self.now frame.now settings 4 (what.Construct settings.pos Do) statement_view shared.old result shared.new }
     {
         let body = nested!(
             shared,
@@ -223,8 +222,8 @@ impl<R: LentReaders> Reader<'_, R> {
         frame: &Frame<'_>,
         settings: ParseSettings,
     ) -> ParseResult<Stmt>
-        requires lent { Lends R.lent self.now (construct For) frame.now settings shared.old }
-        ensures { Reads self.now frame.now settings 4 (construct For) statement_view shared.old result shared.new }
+        requires lent { Lends R.lent self.now (what.Construct settings.pos For) frame.now settings shared.old }
+        ensures { Reads self.now frame.now settings 4 (what.Construct settings.pos For) statement_view shared.old result shared.new }
     {
         let names = next_loop_names(self.engine.alloc(), shared.input)?;
         let over = nested!(shared, self.parse_iterated(shared, frame, settings))?;
@@ -253,8 +252,8 @@ impl<R: LentReaders> Reader<'_, R> {
         names: &LoopNames,
         settings: ParseSettings,
     ) -> ParseResult<StmtBlock>
-        requires lent { Lends R.lent self.now braced (in_loop (loop_view names.now) frame.now) settings shared.old }
-        ensures { Reads self.now (in_loop (loop_view names.now) frame.now) settings 0 braced block_view shared.old
+        requires lent { Lends R.lent self.now (what.Braced settings.pos) (in_loop (loop_view names.now) frame.now) settings shared.old }
+        ensures { Reads self.now (in_loop (loop_view names.now) frame.now) settings 0 (what.Braced settings.pos) block_view shared.old
             result shared.new }
     {
         let inner = loop_frame(self.engine.alloc(), frame, names)?;
@@ -270,8 +269,8 @@ impl<R: LentReaders> Reader<'_, R> {
         frame: &Frame<'_>,
         settings: ParseSettings,
     ) -> ParseResult<Stmt>
-        requires lent { Lends R.lent self.now (construct Try) frame.now settings shared.old }
-        ensures { Reads self.now frame.now settings 4 (construct Try) statement_view shared.old result shared.new }
+        requires lent { Lends R.lent self.now (what.Construct settings.pos Try) frame.now settings shared.old }
+        ensures { Reads self.now frame.now settings 4 (what.Construct settings.pos Try) statement_view shared.old result shared.new }
     {
         let body = nested!(shared, self.parse_braces(shared, frame, settings))?;
         let name = next_catch(self.engine.alloc(), shared.input)?;
@@ -290,8 +289,8 @@ impl<R: LentReaders> Reader<'_, R> {
         name: &Option<(RcStr, Position)>,
         settings: ParseSettings,
     ) -> ParseResult<StmtBlock>
-        requires lent { Lends R.lent self.now braced (in_catch (catch_view name.now) frame.now) settings shared.old }
-        ensures { Reads self.now (in_catch (catch_view name.now) frame.now) settings 0 braced block_view shared.old
+        requires lent { Lends R.lent self.now (what.Braced settings.pos) (in_catch (catch_view name.now) frame.now) settings shared.old }
+        ensures { Reads self.now (in_catch (catch_view name.now) frame.now) settings 0 (what.Braced settings.pos) block_view shared.old
             result shared.new }
     {
         let inner = catch_frame(self.engine.alloc(), frame, name)?;

@@ -11,14 +11,15 @@ ghost use Rattle.rhai_grammar.specs.Delivered.{is_end};
 ghost use Rattle.rhai_grammar.specs.Functions.{ended_function, names_function};
 ghost use Rattle.rhai_grammar.specs.Keys.{is_closure, key_of};
 ghost use Rattle.rhai_base.specs.Comments.{comments_of};
+ghost use Rattle.rhai_grammar.specs.Goals as what;
 ghost use Rattle.rhai_parser_shared.specs.Readers.{GoesOn, ended_view, function};
-ghost use Rattle.rhai_parser_shared.specs.Readers.{head_view, names_of, state_of, statement, with_live};
+ghost use Rattle.rhai_parser_shared.specs.Readers.{head_view, names_of, state_of, with_live};
 ghost use Rattle.rhai_parser_shared.specs.Parts.{AtToken};
 ghost use Rattle.rhai_grammar.specs.Rules.{function_end};
 ghost use Rattle.rhai_grammar_reading.specs.Reading.{run};
 ghost use Rattle.rhai_grammar_reading.specs.Running.{Caller, Gives, next_item, exec};
 ghost use Rattle.rhai_parser_shared.specs.Heights.{Ends, function_height};
-ghost use Rattle.rhai_parser_statements.specs.Readers.{Lends, Reads, ReadsFn, TakesDocumented, TakesFn, fn_alone};
+ghost use Rattle.rhai_parser_statements.specs.Readers.{Lends, LendsFn, Reads, ReadsFn, TakesDocumented, TakesFn};
 ghost use Rattle.rhai_parser_statements.specs.Readers.{fn_on};
 ghost use Rattle.rhai_parser_statements.specs.Readers.{fn_statement, private_on};
 
@@ -51,7 +52,7 @@ impl<R: LentReaders> Reader<'_, R> {
         settings: ParseSettings,
     ) -> ParseResult<Stmt>
         requires more { is_end (next_item (state_of shared.old)).lexeme ≡ false }
-        requires lent { Lends R.lent self.now statement frame.now settings shared.old }
+        requires lent { Lends R.lent self.now what.Statement frame.now settings shared.old }
         ensures { TakesDocumented self.now frame.now settings shared.old result shared.new }
     {
         let alloc = self.engine.alloc();
@@ -79,7 +80,7 @@ impl<R: LentReaders> Reader<'_, R> {
         comments: &[(RcStr, Position)],
     ) -> ParseResult<Stmt>
         requires at { AtToken (state_of shared.old) }
-        requires lent { Lends R.lent self.now statement frame.now settings shared.old }
+        requires lent { Lends R.lent self.now what.Statement frame.now settings shared.old }
         ensures { TakesFn self.now frame.now settings fn_on comments.now shared.old result shared.new }
     {
         skip(shared.input);
@@ -100,7 +101,7 @@ impl<R: LentReaders> Reader<'_, R> {
         comments: &[(RcStr, Position)],
     ) -> ParseResult<Stmt>
         requires at { AtToken (state_of shared.old) }
-        requires lent { Lends R.lent self.now statement frame.now settings shared.old }
+        requires lent { Lends R.lent self.now what.Statement frame.now settings shared.old }
         ensures { TakesFn self.now frame.now settings private_on comments.now shared.old result shared.new }
     {
         skip(shared.input);
@@ -126,9 +127,9 @@ impl<R: LentReaders> Reader<'_, R> {
         first: Position,
         private: bool,
     ) -> ParseResult<Stmt>
-        requires lent { Lends R.lent self.now (fn_statement comments.now first private) frame.now settings shared.old }
+        requires lent { Lends R.lent self.now (fn_statement comments.now first settings.pos private) frame.now settings shared.old }
         ensures { Reads self.now frame.now settings (function_height self.now.engine.now settings) (fn_statement
-            comments.now first private) (with_live statement_view frame.now) shared.old result shared.new }
+            comments.now first settings.pos private) (with_live statement_view frame.now) shared.old result shared.new }
     {
         test_function(settings, first)?;
         let limit = self.engine.max_functions();
@@ -160,7 +161,7 @@ impl<R: LentReaders> Reader<'_, R> {
         private: bool,
     ) -> ParseResult<EndedFn>
         requires alone { frame.old.live ≡ nothing_live }
-        requires lent { Lends R.lent self.now (fn_alone comments.now private) frame.old settings shared.old }
+        requires lent { LendsFn R.lent self.now frame.old settings comments.now private shared.old }
         ensures { ReadsFn self.now frame.old settings comments.now private shared.old result shared.new }
     {
         let head = next_head(self.engine.alloc(), shared.input)?;

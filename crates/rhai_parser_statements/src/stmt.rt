@@ -6,15 +6,13 @@ pub(crate) mod definitions;
 ghost use Rattle.std.specs.Prelude.{◌≡◌, ◌+◌, IfOk, false, true};
 ghost use Rattle.rhai_lower.specs.Nodes.{no_statements};
 ghost use Rattle.rhai_lower.specs.View.{statement_view, view};
-ghost use Rattle.rhai_parser_shared.specs.Readers.{definition, expr_statement, initializer};
-ghost use Rattle.rhai_parser_shared.specs.Readers.{statement};
-ghost use Rattle.rhai_parser_shared.specs.Readers.{exported, imported};
+ghost use Rattle.rhai_grammar.specs.Goals as what;
 ghost use Rattle.rhai_grammar.specs.Contexts.{has_single_blocks};
 ghost use Rattle.rhai_grammar.specs.Statements.{ends_itself};
 ghost use Rattle.rhai_parser_shared.specs.Frames.{context_of};
 ghost use Rattle.rhai_parser_statements.specs.RareStatements.{Starts, is_jump, is_rare};
 ghost use Rattle.rhai_parser_shared.specs.Statements.{ReadsStatement};
-ghost use Rattle.rhai_parser_shared.specs.Readers.{inside, jump, state_of, statements, statements_of, with_live};
+ghost use Rattle.rhai_parser_shared.specs.Readers.{state_of, statements_of, with_live};
 ghost use Rattle.rhai_trees.specs.Statements.{optional_view};
 ghost use Rattle.rhai_parser_shared.specs.Heights.{function_height};
 ghost use Rattle.rhai_parser_statements.specs.Readers.{Lends, Reads, Defines};
@@ -49,9 +47,9 @@ impl<R: LentReaders> Reader<'_, R> {
         settings: ParseSettings,
         closing: Closing,
     ) -> ParseResult<Vec<Stmt>>
-        requires lent { Lends R.lent self.now (statements closing no_statements) frame.old settings shared.old }
+        requires lent { Lends R.lent self.now (what.Statements closing no_statements) frame.old settings shared.old }
         ensures { Defines self.now frame.old frame.new settings (2 + function_height self.now.engine.now settings)
-            (statements closing no_statements) (with_live statements_of frame.new) shared.old result shared.new }
+            (what.Statements closing no_statements) (with_live statements_of frame.new) shared.old result shared.new }
     {
         let mut statements = Vec::new(self.engine.alloc());
         loop {
@@ -81,7 +79,7 @@ impl<R: LentReaders> Reader<'_, R> {
         frame: &mut Frame<'_>,
         settings: ParseSettings,
     ) -> ParseResult<Stmt>
-        requires lent { Lends R.lent self.now statement frame.old settings shared.old }
+        requires lent { Lends R.lent self.now what.Statement frame.old settings shared.old }
         ensures { ReadsStatement self.now.engine.now frame.old frame.new settings shared.old result shared.new }
     {
         let (token, pos) = peek(shared.input)?;
@@ -125,7 +123,7 @@ impl<R: LentReaders> Reader<'_, R> {
         pos: Position,
     ) -> ParseResult<Stmt>
         requires jump { Starts is_jump self.now.engine.now frame.now settings start pos (state_of shared.old) }
-        requires lent { Lends R.lent self.now statement frame.now settings shared.old }
+        requires lent { Lends R.lent self.now what.Statement frame.now settings shared.old }
         ensures { ReadsStatement self.now.engine.now frame.now frame.now settings shared.old result shared.new }
     {
         let settings = settings.at(pos);
@@ -168,7 +166,7 @@ impl<R: LentReaders> Reader<'_, R> {
         pos: Position,
     ) -> ParseResult<Stmt>
         requires keyword { Starts is_rare self.now.engine.now frame.old settings start pos (state_of shared.old) }
-        requires lent { Lends R.lent self.now statement frame.old settings shared.old }
+        requires lent { Lends R.lent self.now what.Statement frame.old settings shared.old }
         ensures { ReadsStatement self.now.engine.now frame.old frame.new settings shared.old result shared.new }
     {
         let settings = settings.at(pos);
@@ -213,8 +211,8 @@ impl<R: LentReaders> Reader<'_, R> {
         frame: &mut Frame<'_>,
         settings: ParseSettings,
     ) -> ParseResult<Stmt>
-        requires lent { Lends R.lent self.now imported frame.old settings shared.old }
-        ensures { Defines self.now frame.old frame.new settings 1 imported (with_live statement_view frame.new)
+        requires lent { Lends R.lent self.now (what.Import settings.pos) frame.old settings shared.old }
+        ensures { Defines self.now frame.old frame.new settings 1 (what.Import settings.pos) (with_live statement_view frame.new)
             shared.old result shared.new }
     {
         let source = self
@@ -234,8 +232,8 @@ impl<R: LentReaders> Reader<'_, R> {
         frame: &mut Frame<'_>,
         settings: ParseSettings,
     ) -> ParseResult<Stmt>
-        requires lent { Lends R.lent self.now exported frame.old settings shared.old }
-        ensures { Defines self.now frame.old frame.new settings 0 exported (with_live statement_view frame.new)
+        requires lent { Lends R.lent self.now (what.Export settings.pos) frame.old settings shared.old }
+        ensures { Defines self.now frame.old frame.new settings 0 (what.Export settings.pos) (with_live statement_view frame.new)
             shared.old result shared.new }
     {
         if let Some(constant) = what_is_exported(shared.input)? {
@@ -262,8 +260,8 @@ impl<R: LentReaders> Reader<'_, R> {
         constant: bool,
         exported: bool,
     ) -> ParseResult<Stmt>
-        requires lent { Lends R.lent self.now (definition constant exported) frame.old settings shared.old }
-        ensures { Defines self.now frame.old frame.new settings 1 (definition constant exported) (with_live
+        requires lent { Lends R.lent self.now (what.Definition settings.pos constant exported) frame.old settings shared.old }
+        ensures { Defines self.now frame.old frame.new settings 1 (what.Definition settings.pos constant exported) (with_live
             statement_view frame.new) shared.old result shared.new }
     {
         let (name, _) = next_var_name(self.engine, shared, frame, settings)?;
@@ -290,8 +288,8 @@ impl<R: LentReaders> Reader<'_, R> {
         frame: &Frame<'_>,
         settings: ParseSettings,
     ) -> ParseResult<Expr>
-        requires lent { Lends R.lent self.now initializer frame.now settings shared.old }
-        ensures { Reads self.now frame.now settings 0 initializer view shared.old result shared.new }
+        requires lent { Lends R.lent self.now (what.Initializer settings.pos) frame.now settings shared.old }
+        ensures { Reads self.now frame.now settings 0 (what.Initializer settings.pos) view shared.old result shared.new }
     {
         if !has_value(shared.input)? {
             return Ok(Expr::Unit(Position::NONE));
@@ -309,8 +307,8 @@ impl<R: LentReaders> Reader<'_, R> {
         frame: &Frame<'_>,
         settings: ParseSettings,
     ) -> ParseResult<Stmt>
-        requires lent { Lends R.lent self.now expr_statement frame.now settings shared.old }
-        ensures reads { Reads self.now frame.now settings 1 expr_statement statement_view shared.old result shared.new }
+        requires lent { Lends R.lent self.now what.ExprStatement frame.now settings shared.old }
+        ensures reads { Reads self.now frame.now settings 1 what.ExprStatement statement_view shared.old result shared.new }
         ensures open { IfOk result (λ s. ends_itself (statement_view s) ≡ false) }
     {
         let target = self
@@ -335,8 +333,8 @@ impl<R: LentReaders> Reader<'_, R> {
         frame: &Frame<'_>,
         settings: ParseSettings,
     ) -> ParseResult<Vec<Stmt>>
-        requires lent { Lends R.lent self.now inside frame.now settings shared.old }
-        ensures { Reads self.now frame.now settings 2 inside statements_of shared.old result shared.new }
+        requires lent { Lends R.lent self.now what.Inside frame.now settings shared.old }
+        ensures { Reads self.now frame.now settings 2 what.Inside statements_of shared.old result shared.new }
     {
         if settings.has_flag(ParseSettingFlags::DISALLOW_STATEMENTS_IN_BLOCKS) {
             return self.parse_single(shared, frame, settings);
@@ -357,8 +355,8 @@ impl<R: LentReaders> Reader<'_, R> {
         settings: ParseSettings,
     ) -> ParseResult<Vec<Stmt>>
         requires single { has_single_blocks (context_of self.now.engine.now frame.now settings) ≡ true }
-        requires lent { Lends R.lent self.now inside frame.now settings shared.old }
-        ensures { Reads self.now frame.now settings 2 inside statements_of shared.old result shared.new }
+        requires lent { Lends R.lent self.now what.Inside frame.now settings shared.old }
+        ensures { Reads self.now frame.now settings 2 what.Inside statements_of shared.old result shared.new }
     {
         let statement = nested!(shared, self.parse_expr_stmt(shared, frame, settings))?;
         Ok(vec![in self.engine.alloc(); statement]?)
@@ -373,8 +371,8 @@ impl<R: LentReaders> Reader<'_, R> {
         frame: &Frame<'_>,
         settings: ParseSettings,
     ) -> ParseResult<Option<Expr>>
-        requires lent { Lends R.lent self.now jump frame.now settings shared.old }
-        ensures { Reads self.now frame.now settings 0 jump optional_view shared.old result shared.new }
+        requires lent { Lends R.lent self.now (what.Jump settings.pos) frame.now settings shared.old }
+        ensures { Reads self.now frame.now settings 0 (what.Jump settings.pos) optional_view shared.old result shared.new }
     {
         let (token, _) = peek(shared.input)?;
         let looping = self.engine.allow_looping();

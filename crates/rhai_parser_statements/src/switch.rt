@@ -6,9 +6,7 @@ ghost use Rattle.rhai_lower.specs.Nodes.{no_nodes};
 ghost use Rattle.rhai_lower.specs.View.{statement_view, view};
 ghost use Rattle.rhai_grammar.specs.Switches.{nothing_collected};
 ghost use Rattle.rhai_grammar.specs.declared.role.Construct.TheVariants.{Switch};
-ghost use Rattle.rhai_parser_shared.specs.Readers.{action, arm, arms, case, case_guard, cases};
-ghost use Rattle.rhai_parser_shared.specs.Readers.{construct};
-ghost use Rattle.rhai_parser_shared.specs.Readers.{default_arm};
+ghost use Rattle.rhai_grammar.specs.Goals as what;
 ghost use Rattle.rhai_parser_statements.specs.Switches.{CaseFrame, action_view, arm_view, cases_view};
 ghost use Rattle.rhai_trees.specs.Arms.{arms_view};
 ghost use Rattle.rhai_parser_statements.specs.Readers.{Lends, Reads, Takes, cases_after};
@@ -33,8 +31,8 @@ impl<R: LentReaders> Reader<'_, R> {
         frame: &Frame<'_>,
         settings: ParseSettings,
     ) -> ParseResult<Stmt>
-        requires lent { Lends R.lent self.now (construct Switch) frame.now settings shared.old }
-        ensures { Reads self.now frame.now settings 4 (construct Switch) statement_view shared.old result shared.new }
+        requires lent { Lends R.lent self.now (what.Construct settings.pos Switch) frame.now settings shared.old }
+        ensures { Reads self.now frame.now settings 4 (what.Construct settings.pos Switch) statement_view shared.old result shared.new }
     {
         let item = self
             .readers
@@ -54,8 +52,8 @@ impl<R: LentReaders> Reader<'_, R> {
         frame: &Frame<'_>,
         settings: ParseSettings,
     ) -> ParseResult<Arms>
-        requires lent { Lends R.lent self.now (arms nothing_collected) frame.now settings shared.old }
-        ensures { Reads self.now frame.now settings 4 (arms nothing_collected) arms_view shared.old result shared.new }
+        requires lent { Lends R.lent self.now (what.Arms nothing_collected) frame.now settings shared.old }
+        ensures { Reads self.now frame.now settings 4 (what.Arms nothing_collected) arms_view shared.old result shared.new }
     {
         let in_cases = frame.in_case(self.engine.alloc());
         self.parse_arms_with(shared, frame, &in_cases, settings)
@@ -72,8 +70,8 @@ impl<R: LentReaders> Reader<'_, R> {
         settings: ParseSettings,
     ) -> ParseResult<Arms>
         requires in_cases { CaseFrame frame.now in_cases.now }
-        requires lent { Lends R.lent self.now (arms nothing_collected) frame.now settings shared.old }
-        ensures { Reads self.now frame.now settings 4 (arms nothing_collected) arms_view shared.old result shared.new }
+        requires lent { Lends R.lent self.now (what.Arms nothing_collected) frame.now settings shared.old }
+        ensures { Reads self.now frame.now settings 4 (what.Arms nothing_collected) arms_view shared.old result shared.new }
     {
         let mut arms = new_arms(self.engine.alloc());
         loop {
@@ -114,8 +112,8 @@ impl<R: LentReaders> Reader<'_, R> {
         arms: &Arms,
     ) -> ParseResult<Arm>
         requires in_cases { CaseFrame frame.now in_cases.now }
-        requires lent { Lends R.lent self.now (arm (arms_view arms.now)) frame.now settings shared.old }
-        ensures { Takes self.now frame.now settings 3 (arm (arms_view arms.now)) arm_view shared.old result shared.new }
+        requires lent { Lends R.lent self.now (what.Arm (arms_view arms.now)) frame.now settings shared.old }
+        ensures { Takes self.now frame.now settings 3 (what.Arm (arms_view arms.now)) arm_view shared.old result shared.new }
     {
         let cases = self.parse_cases(shared, frame, in_cases, settings)?;
         let guard = nested!(shared, self.parse_case_guard(shared, frame, settings))?;
@@ -138,8 +136,8 @@ impl<R: LentReaders> Reader<'_, R> {
         settings: ParseSettings,
         default: Position,
     ) -> ParseResult<Expr>
-        requires lent { Lends R.lent self.now (default_arm default) frame.now settings shared.old }
-        ensures { Reads self.now frame.now settings 3 (default_arm default) view shared.old result shared.new }
+        requires lent { Lends R.lent self.now (what.DefaultArm default) frame.now settings shared.old }
+        ensures { Reads self.now frame.now settings 3 (what.DefaultArm default) view shared.old result shared.new }
     {
         default_unguarded(shared.input)?;
         match_token(
@@ -162,8 +160,8 @@ impl<R: LentReaders> Reader<'_, R> {
         settings: ParseSettings,
     ) -> ParseResult<SmallVec<Expr, 1>>
         requires in_cases { CaseFrame frame.now in_cases.now }
-        requires lent { Lends R.lent self.now (cases no_nodes) frame.now settings shared.old }
-        ensures { Reads self.now frame.now settings 2 (cases no_nodes) cases_view shared.old result shared.new }
+        requires lent { Lends R.lent self.now (what.Cases no_nodes) frame.now settings shared.old }
+        ensures { Reads self.now frame.now settings 2 (what.Cases no_nodes) cases_view shared.old result shared.new }
     {
         let case = nested!(shared, self.parse_case(shared, frame, in_cases, settings))?;
         let cases = SmallVec::from_buf(self.engine.alloc(), [case]);
@@ -212,8 +210,8 @@ impl<R: LentReaders> Reader<'_, R> {
         settings: ParseSettings,
     ) -> ParseResult<Expr>
         requires in_cases { CaseFrame frame.now in_cases.now }
-        requires lent { Lends R.lent self.now case frame.now settings shared.old }
-        ensures { Reads self.now frame.now settings 1 case view shared.old result shared.new }
+        requires lent { Lends R.lent self.now what.Case frame.now settings shared.old }
+        ensures { Reads self.now frame.now settings 1 what.Case view shared.old result shared.new }
     {
         let case = self
             .readers
@@ -229,8 +227,8 @@ impl<R: LentReaders> Reader<'_, R> {
         frame: &Frame<'_>,
         settings: ParseSettings,
     ) -> ParseResult<Expr>
-        requires lent { Lends R.lent self.now case_guard frame.now settings shared.old }
-        ensures { Reads self.now frame.now settings 2 case_guard view shared.old result shared.new }
+        requires lent { Lends R.lent self.now what.CaseGuard frame.now settings shared.old }
+        ensures { Reads self.now frame.now settings 2 what.CaseGuard view shared.old result shared.new }
     {
         if !pass_token(shared.input, DueToken::If)? {
             return Ok(no_guard());
@@ -248,8 +246,8 @@ impl<R: LentReaders> Reader<'_, R> {
         frame: &Frame<'_>,
         settings: ParseSettings,
     ) -> ParseResult<Action>
-        requires lent { Lends R.lent self.now action frame.now settings shared.old }
-        ensures { Reads self.now frame.now settings 2 action action_view shared.old result shared.new }
+        requires lent { Lends R.lent self.now what.Action frame.now settings shared.old }
+        ensures { Reads self.now frame.now settings 2 what.Action action_view shared.old result shared.new }
     {
         if settings.has_flag(ParseSettingFlags::DISALLOW_STATEMENTS_IN_BLOCKS) {
             let expr = self

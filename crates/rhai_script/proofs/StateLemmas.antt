@@ -22,7 +22,7 @@ use Rattle.rhai_grammar.specs.Promises.{HasRead, UnlessMemory}
 use Rattle.rhai_grammar.specs.declared.error.ParseError.{ParseError}
 use Rattle.rhai_grammar.specs.declared.filter.ExprFilter.{ExprFilter}
 use Rattle.rhai_grammar.specs.declared.filter.ExprFilter.TheVariants.{All}
-use Rattle.rhai_grammar_reading.specs.Reading.{Goal, Script, Whole}
+use Rattle.rhai_grammar_reading.specs.Reading.{In, Goal, Script, Whole}
 use Rattle.rhai_grammar.specs.Promises.{ReadsWhole, Written}
 use Rattle.rhai_grammar.specs.Forms.{depth}
 use Rattle.rhai_grammar.specs.Rules.{production}
@@ -174,7 +174,7 @@ a_script makes engine constants level limits text result after r o = record { af
 pub an_expression : (makes : Makes) (engine : EngineValue) (constants : Constants) (level : OptimizationLevel)
     (limits : Limits)
     (text : Text) (result : Result AST ParseError) (after : Library)
-    → ReadsText (Whole (text_context engine (expr_settings engine) constants) nothing_live)
+    → ReadsText (In Whole (text_context engine (expr_settings engine) constants) nothing_live)
     (λ f script. IsScriptOf makes constants level f.0 after script) [] after limits text result
     → IsOrderly engine.max_functions 0 after → ReadsTextAsExpression makes engine constants level limits text result
 an_expression makes engine constants level limits text result after r o =

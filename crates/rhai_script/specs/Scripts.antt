@@ -8,7 +8,7 @@ use Rattle.rhai_grammar.specs.Libraries.{Library}
 use Rattle.rhai_grammar.specs.NumberedLibraries.{IsOrderly}
 use Rattle.rhai_grammar.specs.declared.error.ParseError.{ParseError}
 use Rattle.rhai_grammar.specs.declared.filter.ExprFilter.TheVariants.{All}
-use Rattle.rhai_grammar_reading.specs.Reading.{Script, Whole}
+use Rattle.rhai_grammar_reading.specs.Reading.{In, Script, Whole}
 use Rattle.rhai_base.specs.Frames.{known_variables}
 use Rattle.rhai_base.specs.Settings.{settings_of}
 use Rattle.rhai_base.specs.declared.settings.ParseSettings.{ParseSettings}
@@ -43,6 +43,6 @@ pub record ReadsTextAsExpression (makes : Makes) (engine : EngineValue) (constan
     (level : OptimizationLevel) (limits : Limits) (text : Text) (result : Result AST ParseError) : Type 0
   where
     pub after : Library
-    pub reads : ReadsText (Whole (text_context engine (expr_settings engine) constants) nothing_live)
+    pub reads : ReadsText (In Whole (text_context engine (expr_settings engine) constants) nothing_live)
         (λ f script. IsScriptOf makes constants level f.0 after script) [] after limits text result
     pub orderly : IsOrderly engine.max_functions 0 after

@@ -5,7 +5,7 @@ ghost use Rattle.rhai_lower.specs.Nodes.{variable};
 ghost use Rattle.rhai_lower.specs.View.{named};
 ghost use Rattle.rhai_grammar.specs.Beginnings.{qualifies};
 ghost use Rattle.rhai_grammar.specs.Contexts.{Context};
-ghost use Rattle.rhai_grammar_reading.specs.Reading.{Path, Postfix};
+ghost use Rattle.rhai_grammar_reading.specs.Reading.{In, Path, Postfix};
 ghost use Rattle.rhai_grammar_reading.specs.Running.{Fails, next_item, exec, guarded, result_of};
 ghost use Rattle.rhai_parser_shared.specs.Readers.{GoesOn, ReadsGoal, state_of};
 ghost use Rattle.rhai_parser_expressions.specs.ExprViews.{variable_view};
@@ -71,11 +71,11 @@ pub(crate) fn named_operand(
     ensures goes_on { GoesOn shared.old shared.new }
     ensures steady { Steady shared.old shared.new }
     ensures found { (c : Context) → IfOk result (λ n.
-        result_of (Postfix c frame.now.live (variable (named name.value) pos)) (state_of shared.old)
-        ≡ exec (guarded (Postfix c frame.now.live (variable (named name.value) pos)) (state_of shared.old))
+        result_of (In (Postfix (variable (named name.value) pos)) c frame.now.live) (state_of shared.old)
+        ≡ exec (guarded (In (Postfix (variable (named name.value) pos)) c frame.now.live) (state_of shared.old))
         (call_if c frame.now.live (variable (named n.name.value) n.pos) n.called) (state_of shared.new)) }
     ensures refused { (c : Context) → IfErr result (λ e. Fails
-        (result_of (Postfix c frame.now.live (variable (named name.value) pos)) (state_of shared.old)) e
+        (result_of (In (Postfix (variable (named name.value) pos)) c frame.now.live) (state_of shared.old)) e
         (state_of shared.new)) }
 {
     if !is_qualified(shared.input)? {

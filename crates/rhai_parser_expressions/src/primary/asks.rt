@@ -8,7 +8,7 @@ ghost use Rattle.rhai_base.specs.Settings.{settings_of};
 ghost use Rattle.rhai_base.specs.Words.{word_result};
 ghost use Rattle.rhai_trees.specs.Chains.{chain_view};
 ghost use Rattle.rhai_trees.specs.Linked.{is_linked};
-ghost use Rattle.rhai_grammar_reading.specs.Reading.{Primary};
+ghost use Rattle.rhai_grammar_reading.specs.Reading.{In, Primary};
 ghost use Rattle.std.specs.Rc.{rc_str_bytes};
 ghost use Rattle.rhai_lower.specs.Lexemes.{Lexeme};
 ghost use Rattle.rhai_lower.specs.declared.position.Position.{Position};
@@ -40,7 +40,7 @@ pub(crate) fn take_value(shared: &mut Shared<'_>) -> Result<Expr, AllocError>
     requires value { is_value (beginning (next_item (state_of shared.old)).lexeme) ≡ true }
     ensures goes_on { GoesOn shared.old shared.new }
     ensures steady { Steady shared.old shared.new }
-    ensures reads { (context : Context) (live : Live) → IfOk result (λ x. result_of (Primary context live)
+    ensures reads { (context : Context) (live : Live) → IfOk result (λ x. result_of (In Primary context live)
         (state_of shared.old) ≡ Done (view x) (state_of shared.new)) }
     ensures value { IfOk result (λ x. is_linked (view x) ≡ false) }
 {

@@ -13,7 +13,8 @@ ghost use Rattle.rhai_grammar.specs.Targets.{is_constant_use, target_fault, upda
 ghost use Rattle.rhai_base.specs.Settings.{settings_of};
 ghost use Rattle.rhai_grammar_reading.specs.Reading.{run};
 ghost use Rattle.rhai_grammar_reading.specs.Running.{Caller, Gives, Progress, exec};
-ghost use Rattle.rhai_parser_shared.specs.Readers.{GoesOn, ReadsGoal, name_view, var_name};
+ghost use Rattle.rhai_grammar.specs.Goals as what;
+ghost use Rattle.rhai_parser_shared.specs.Readers.{GoesOn, ReadsGoal, name_view, under};
 ghost use Rattle.rhai_parser_shared.specs.Heights.{Steady};
 
 use rhai_base::allowed::{may_be_closure, may_be_value};
@@ -38,7 +39,7 @@ pub(crate) fn next_var_name(
 ) -> ParseResult<(RcStr, Position)>
     ensures goes_on { GoesOn shared.old shared.new }
     ensures steady { Steady shared.old shared.new }
-    ensures reads { ReadsGoal (var_name engine.now frame.now settings) name_view shared.old result shared.new }
+    ensures reads { ReadsGoal (under what.VarName engine.now frame.now settings) name_view shared.old result shared.new }
 {
     let (name, pos) = parse_var_name(shared.input)?;
     frame.test_name(engine.allow_shadowing(), &name, pos)?;

@@ -3,7 +3,8 @@ use Rattle.std.proofs.Common.{ℕ, ◌≡◌, ◌<◌, ◌∙◌, ap, arith, fal
 use Rattle.rhai_grammar.specs.Beginnings.{beginning}
 use Rattle.rhai_parser_shared.specs.PlainPrimaries.{is_plain}
 use Rattle.rhai_grammar_reading.specs.Running.{need, next_item}
-use Rattle.rhai_parser_shared.specs.Readers.{construct, expression, inside, primary, state_of, statement}
+use Rattle.rhai_grammar.specs.Goals as what
+use Rattle.rhai_parser_shared.specs.Readers.{state_of, under}
 use Rattle.rhai_parser.proofs.lending.+parser.Goals as goal
 
 -- A need that falls below another is below what that other is measured by.
@@ -12,7 +13,7 @@ falls is below same = omega (arith, is, below, same)
 
 pub parse_chain-parse_chain-requires : goal.parse_chain-parse_chain-requires
 parse_chain-parse_chain-requires t c =
-    let same = ap (need (expression c.args.engine.now c.args.frame.now c.args.settings)) c.nested-enter.ensures.enters ∙ c.decreases in record {
+    let same = ap (need (under what.Expression c.args.engine.now c.args.frame.now c.args.settings)) c.nested-enter.ensures.enters ∙ c.decreases in record {
       lent = λ m below. (
         λ engine shared frame settings is. ((falls is below same, tt), λ result after told. told.1),
         λ engine shared frame settings is. ((falls is below same, tt), λ result after after_frame told. told.1),
@@ -24,7 +25,7 @@ parse_chain-parse_chain-requires t c =
 
 pub parse_stmt-parse_stmt-requires : goal.parse_stmt-parse_stmt-requires
 parse_stmt-parse_stmt-requires t c =
-    let same = ap (need (statement c.args.engine.now c.args.frame.now c.args.settings)) c.nested-enter.ensures.enters ∙ c.decreases in record {
+    let same = ap (need (under what.Statement c.args.engine.now c.args.frame.now c.args.settings)) c.nested-enter.ensures.enters ∙ c.decreases in record {
       lent = λ m below. (
         λ engine shared frame settings is. ((falls is below same, tt), λ result after told. told.1),
         λ engine shared frame settings is. ((falls is below same, tt), λ result after after_frame told. told.1),
@@ -36,7 +37,7 @@ parse_stmt-parse_stmt-requires t c =
 
 pub parse_construct-parse_block_statement-requires : goal.parse_construct-parse_block_statement-requires
 parse_construct-parse_block_statement-requires t c =
-    let same = ap (λ kind. need (construct kind c.args.engine.now c.args.frame.now c.args.settings) (state_of c.args.shared.now)) (sym c.in-Block.is) ∙ c.decreases in record {
+    let same = ap (λ kind. need (under (what.Construct c.args.settings.pos kind) c.args.engine.now c.args.frame.now c.args.settings) (state_of c.args.shared.now)) (sym c.in-Block.is) ∙ c.decreases in record {
       lent = λ m below. (
         λ engine shared frame settings is. ((falls is below same, tt), λ result after told. told.1),
         λ engine shared frame settings is. ((falls is below same, tt), λ result after after_frame told. told.1),
@@ -48,7 +49,7 @@ parse_construct-parse_block_statement-requires t c =
 
 pub parse_construct-parse_construct-requires : goal.parse_construct-parse_construct-requires
 parse_construct-parse_construct-requires t c =
-    let same = ap (need (construct c.args.kind c.args.engine.now c.args.frame.now c.args.settings)) c.nested-enter.ensures.enters ∙ c.decreases in record {
+    let same = ap (need (under (what.Construct c.args.settings.pos c.args.kind) c.args.engine.now c.args.frame.now c.args.settings)) c.nested-enter.ensures.enters ∙ c.decreases in record {
       keyword = search rules;
       lent = λ m below. (
         λ engine shared frame settings is. ((falls is below same, tt), λ result after told. told.1),
@@ -61,7 +62,7 @@ parse_construct-parse_construct-requires t c =
 
 pub parse_block_inside-parse_block_inside-requires : goal.parse_block_inside-parse_block_inside-requires
 parse_block_inside-parse_block_inside-requires t c =
-    let same = ap (need (inside c.args.engine.now c.args.frame.now c.args.settings)) c.nested-enter.ensures.enters ∙ c.decreases in record {
+    let same = ap (need (under what.Inside c.args.engine.now c.args.frame.now c.args.settings)) c.nested-enter.ensures.enters ∙ c.decreases in record {
       lent = λ m below. (
         λ engine shared frame settings is. ((falls is below same, tt), λ result after told. told.1),
         λ engine shared frame settings is. ((falls is below same, tt), λ result after after_frame told. told.1),
@@ -73,7 +74,7 @@ parse_block_inside-parse_block_inside-requires t c =
 
 pub parse_compound-parse_compound-requires : goal.parse_compound-parse_compound-requires
 parse_compound-parse_compound-requires t c =
-    let same = ap (need (primary c.args.engine.now c.args.frame.now c.args.settings)) c.nested-enter.ensures.enters ∙ c.decreases in record {
+    let same = ap (need (under what.Primary c.args.engine.now c.args.frame.now c.args.settings)) c.nested-enter.ensures.enters ∙ c.decreases in record {
       compound = subst (λ s. is_plain (beginning (next_item s).lexeme) ≡ false) (sym c.nested-enter.ensures.enters) c.requires.compound;
       lent = λ m below. (
         λ engine shared frame settings is. ((falls is below same, tt), λ result after told. told.1),

@@ -3,7 +3,7 @@ use Rattle.std.proofs.Common.{◌≡◌, ◌∙◌, [], Err, map, refl, rules, s
 use Rattle.rhai_lower.specs.Entries.{ask_of}
 use Rattle.rhai_lower.specs.Streams.{stream_of}
 use Rattle.rhai_grammar.specs.Causes.{no_memory}
-use Rattle.rhai_grammar_reading.specs.Reading.{Whole}
+use Rattle.rhai_grammar_reading.specs.Reading.{In, Whole}
 use Rattle.rhai_grammar_laws.proofs.Positions.{refusals_stand_at_tokens}
 use Rattle.rhai_parser_shared.specs.Engines.{expr_settings}
 use Rattle.rhai_parser.specs.Scripts.{IsScriptOf}
@@ -52,7 +52,7 @@ returns-clause-reads g c =
     an_expression
     (g.O.Optimizer.makes c.args.optimizer.now) c.args.engine.now c.args.constants c.args.level c.args.limits
     c.args.text.now c.parse_global_expr_with.result _
-    (text_parsed Whole (λ after k context live f script. IsScriptOf
+    (text_parsed (In Whole) (λ after k context live f script. IsScriptOf
     (g.O.Optimizer.makes c.args.optimizer.now) k c.args.level f.0 after script)
     (λ context live. (refusals_stand_at_tokens.expression context live).named) c.args.engine.now read.0
     (expr_settings c.args.engine.now) state c.args.constants c.args.limits c.args.text.now

@@ -5,7 +5,7 @@ use Rattle.rhai_grammar.specs.Cursors.{cursor_of}
 use Rattle.rhai_base.specs.Libraries.{library_of}
 use Rattle.rhai_parser_shared.specs.Readers.{nesting_of}
 use Rattle.rhai_parser_shared.specs.Frames.{context_of, live_of}
-use Rattle.rhai_grammar_reading.specs.Reading.{Whole}
+use Rattle.rhai_grammar_reading.specs.Reading.{In, Whole}
 use Rattle.rhai_grammar_reading.specs.Running.{Done, Progress, Refused, result_of}
 use Rattle.rhai_parser.proofs.PromiseLemmas.{Entries, begins_read, begins_same, expression_done, expression_fails}
 use Rattle.rhai_parser.proofs.PromiseLemmas.{has_read_done, has_read_fails}
@@ -18,7 +18,7 @@ returns-in-Ok-clause-reads g c = λ mode.
     let live = live_of c.args.frame.now in
     let at : Entries → Progress = λ es. record { cursor = cursor_of c.args.input.now; library = library_of es; captured = []; nesting = nesting_of c.args.counts.now } in
     let to : Entries → Progress = λ es. record { cursor = cursor_of c.read_expression-read.new.input; library = library_of es; captured = c.in-Ok.ensures.reads.0; nesting = nesting_of c.read_expression-read.new.counts } in
-    let here = ap (λ (es : Entries). result_of (Whole context live) (at es)) c.in_ok-library.ensures.ok in
+    let here = ap (λ (es : Entries). result_of (In Whole context live) (at es)) c.in_ok-library.ensures.ok in
     let ended = ap (λ (es : Entries). Done (view c.in-Ok.expr) (to es)) (sym c.into_functions.ensures) in
     expression_done (g.O.Optimizer.makes c.args.optimizer.now) c.args.constants c.args.level context live (at c.args.lib.now.entries) (to c.into_functions.result.entries) (view c.in-Ok.expr) c.make_script.result (record { mode = mode; captured = refl })
     (sym here ∙ c.in-Ok.ensures.reads.1 ∙ ended) c.make_script.ensures.script
@@ -36,7 +36,7 @@ returns-in-Err-clause-reads g c = λ mode.
     let live = live_of c.args.frame.now in
     let at : Entries → Progress = λ es. record { cursor = cursor_of c.args.input.now; library = library_of es; captured = []; nesting = nesting_of c.args.counts.now } in
     let to : Entries → Progress = λ es. record { cursor = cursor_of c.read_expression-read.new.input; library = library_of es; captured = c.in-Err.ensures.reads.0; nesting = nesting_of c.read_expression-read.new.counts } in
-    let here = ap (λ (es : Entries). result_of (Whole context live) (at es)) c.in_ok-library.ensures.ok in
+    let here = ap (λ (es : Entries). result_of (In Whole context live) (at es)) c.in_ok-library.ensures.ok in
     let ended = ap (λ (es : Entries). Refused (refusal_of c.in-Err.error) (to es)) (sym c.into_functions.ensures) in
     expression_fails (g.O.Optimizer.makes c.args.optimizer.now) c.args.constants c.args.level context live (at c.args.lib.now.entries) (to c.into_functions.result.entries) c.in-Err.error (record { mode = mode; captured = refl })
     (λ told. sym here ∙ c.in-Err.ensures.reads.1.0 told ∙ ended, c.in-Err.ensures.reads.1.1)

@@ -9,7 +9,8 @@ use Rattle.rhai_grammar_reading.specs.Running as R
 use Rattle.rhai_grammar_reading.specs.Running.{after_peek, after_take, entering, nested, next_item, result_of}
 use Rattle.rhai_parser_shared.proofs.Given.{gives_so}
 use Rattle.rhai_parser_shared.specs.Frames.{context_of, live_of}
-use Rattle.rhai_parser_shared.specs.Readers.{operand, primary, state_of}
+use Rattle.rhai_grammar.specs.Goals as what
+use Rattle.rhai_parser_shared.specs.Readers.{state_of, under}
 use Rattle.rhai_grammar_reading.proofs.Outcomes.{answer_given, outcome}
 use Rattle.rhai_grammar_reading.proofs.Steps.{nested_done, nested_gives}
 use Rattle.rhai_parser_expressions.proofs.ExprReaders as rule
@@ -39,9 +40,9 @@ returns-in_ok-operand-in-Sign g t c = record {
         shrinks = grind arith;
       } in
       let entered : state_of c.nested-enter.new.self ≡ entering (after_peek (after_take s)) = grind arith in
-      let read : nested (result_of (operand engine c.args.frame.now c.in_ok-settings-in-Sign.settings)) (after_peek (after_take s)) ≡ R.Done x left = nested_done _ _ entered c.in_ok-operand-in-Sign.ensures.reads c.nested-leave.ensures.leaves in
+      let read : nested (result_of (under what.Operand engine c.args.frame.now c.in_ok-settings-in-Sign.settings)) (after_peek (after_take s)) ≡ R.Done x left = nested_done _ _ entered c.in_ok-operand-in-Sign.ensures.reads c.nested-leave.ensures.leaves in
       let due = sign_result (lexeme c.take-sign.result.0) c.take-sign.result.1 x in
-      let same : result_of (operand engine c.args.frame.now c.args.settings) s ≡ outcome due left = signed_so context deeper live x s left signed read ∙ ap (λ (i : Item). outcome (sign_result i.lexeme i.at x) left) (sym c.take-sign.ensures.value) in
+      let same : result_of (under what.Operand engine c.args.frame.now c.args.settings) s ≡ outcome due left = signed_so context deeper live x s left signed read ∙ ap (λ (i : Item). outcome (sign_result i.lexeme i.at x) left) (sym c.take-sign.ensures.value) in
       answer_given chain_view due left c.sign_operand.result same c.sign_operand.ensures.answers c.sign_operand.ensures.nowhere;
 }
 
@@ -81,7 +82,7 @@ returns-in_ok-primary-in_default g t c = record {
       let unsigned : is_sign (beginning (next_item s).lexeme) ≡ false = grind arith in
       gives_so chain_view c.parse_all_ends.result (state_of c.parse_all_ends.new.shared)
       (operand_begun context (live_of c.args.frame.now) (chain_view c.in_ok-primary-in_default.primary) s (state_of c.parse_compound.new.shared) c.requires.begins.readable unsigned
-      (ap (nested (result_of (primary engine c.args.frame.now c.args.settings))) (sym c.requires.begins.looked) ∙ c.in_ok-primary-in_default.ensures.reads))
+      (ap (nested (result_of (under what.Primary engine c.args.frame.now c.args.settings))) (sym c.requires.begins.looked) ∙ c.in_ok-primary-in_default.ensures.reads))
       (c.parse_all_ends.ensures.reads s (grind arith));
 }
 
@@ -95,5 +96,5 @@ returns-in_err-primary-in_default g t c = record {
       let context = context_of c.args.self.now.engine.now c.args.frame.now c.args.settings in
       let unsigned : is_sign (beginning (next_item s).lexeme) ≡ false = grind arith in
       rw (p.1, p.2) (operand_fails context (live_of c.args.frame.now) s c.requires.begins.readable unsigned _ (state_of c.parse_compound.new.shared)
-      (subst (λ u. R.Fails (nested (result_of (primary c.args.self.now.engine.now c.args.frame.now c.args.settings)) u) c.in_err-primary-in_default.field-0.0 (state_of c.parse_compound.new.shared)) c.requires.begins.looked c.in_err-primary-in_default.ensures.reads));
+      (subst (λ u. R.Fails (nested (result_of (under what.Primary c.args.self.now.engine.now c.args.frame.now c.args.settings)) u) c.in_err-primary-in_default.field-0.0 (state_of c.parse_compound.new.shared)) c.requires.begins.looked c.in_err-primary-in_default.ensures.reads));
 }

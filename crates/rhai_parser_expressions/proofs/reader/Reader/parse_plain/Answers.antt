@@ -5,7 +5,8 @@ use Rattle.rhai_grammar.specs.Beginnings.{beginning, is_sign}
 use Rattle.rhai_grammar_reading.specs.Running.{after_peek, entering, next_item, result_of}
 use Rattle.rhai_parser_shared.proofs.Given.{gives_so}
 use Rattle.rhai_parser_shared.specs.Frames.{context_of, live_of}
-use Rattle.rhai_parser_shared.specs.Readers.{nesting_of, primary, state_of}
+use Rattle.rhai_grammar.specs.Goals as what
+use Rattle.rhai_parser_shared.specs.Readers.{nesting_of, state_of, under}
 use Rattle.rhai_grammar_reading.proofs.Steps.{nested_done, nested_gives}
 use Rattle.rhai_parser_expressions.proofs.OperandLemmas.{counted_once, operand_begun, operand_fails, plain_unsigned}
 use Rattle.rhai_parser_expressions.proofs.reader.Reader.parse_plain.Goals as goal
@@ -22,7 +23,7 @@ returns g c = record {
       let entered : state_of c.nested-enter.new.self ≡ entering (after_peek s) = grind arith in
       gives_so chain_view c.parse_ends.result (state_of c.parse_ends.new.shared)
       (operand_begun context (live_of c.args.frame.now) (chain_view c.in_ok-primary.primary) s (state_of c.nested-leave.new.self) c.requires.begins.0.readable unsigned
-      (nested_done (result_of (primary engine c.args.frame.now c.args.settings)) (after_peek s) entered c.in_ok-primary.ensures.reads.reads c.nested-leave.ensures.leaves))
+      (nested_done (result_of (under what.Primary engine c.args.frame.now c.args.settings)) (after_peek s) entered c.in_ok-primary.ensures.reads.reads c.nested-leave.ensures.leaves))
       (c.parse_ends.ensures.reads s (grind arith));
 }
 

@@ -3,7 +3,8 @@ use Rattle.rhai_grammar_reading.specs.Running.{result_of}
 use Rattle.rhai_trees.specs.Chains.{chain_view}
 use Rattle.rhai_parser_shared.proofs.Given.{gives_so}
 use Rattle.rhai_parser_shared.specs.Frames.{context_of}
-use Rattle.rhai_parser_shared.specs.Readers.{postfix, state_of}
+use Rattle.rhai_grammar.specs.Goals as what
+use Rattle.rhai_parser_shared.specs.Readers.{state_of, under}
 use Rattle.rhai_grammar_reading.proofs.Steps.{looked}
 use Rattle.rhai_parser_expressions.proofs.LookedLemmas.{plain_postfix}
 use Rattle.rhai_parser_expressions.proofs.reader.Reader.parse_postfix.Goals as goal
@@ -22,7 +23,7 @@ returns g c = record {
   goes_on = grind arith;
   stays = grind arith;
   reads =
-      let goal = postfix (chain_view c.args.operand) c.args.self.now.engine.now c.args.frame.now c.args.settings in
+      let goal = under (what.Postfix (chain_view c.args.operand)) c.args.self.now.engine.now c.args.frame.now c.args.settings in
       gives_so chain_view c.parse_called.result (state_of c.parse_called.new.shared)
       (sym (looked goal _ (state_of c.args.shared.now) refl) ∙ ap (result_of goal) (grind arith)) c.parse_called.ensures.reads;
 }

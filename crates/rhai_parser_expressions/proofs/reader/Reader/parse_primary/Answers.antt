@@ -5,7 +5,7 @@ use Rattle.rhai_grammar.specs.Cursors.{cursor_of}
 use Rattle.rhai_parser_shared.proofs.Given.{gives_so}
 use Rattle.rhai_parser_shared.specs.Frames.{context_of, live_of}
 use Rattle.rhai_parser_shared.specs.Readers.{state_at, state_of}
-use Rattle.rhai_grammar_reading.specs.Reading.{Primary}
+use Rattle.rhai_grammar_reading.specs.Reading.{In, Primary}
 use Rattle.rhai_grammar_reading.specs.Running.{guarded}
 use Rattle.rhai_grammar_reading.proofs.Outcomes.{answer_given}
 use Rattle.rhai_grammar_reading.proofs.WordSteps.{Worded}
@@ -34,7 +34,7 @@ returns-in_ok-excluded-in-Name g c = record {
         let context = context_of c.args.self.now.engine.now c.args.frame.now c.args.settings in
         let live = live_of c.args.frame.now in
         gives_so chain_view c.used_name.result (state_of c.used_name.new.shared) (named context live h)
-        (c.used_name.ensures.gives c.args.self.now.engine.now (guarded (Primary context live) (state_of c.args.shared.now)) _
+        (c.used_name.ensures.gives c.args.self.now.engine.now (guarded (In Primary context live) (state_of c.args.shared.now)) _
         c.in_ok-token.field-0.now.1 h.is_so);
   };
   counts = grind arith;

@@ -12,7 +12,8 @@ use Rattle.rhai_base.specs.Settings.{gap, levels_left, settings_of}
 use Rattle.rhai_base.specs.declared.settings.ParseSettings.{ParseSettings}
 use Rattle.rhai_grammar_reading.specs.Running.{Done, result_of}
 use Rattle.rhai_parser_shared.specs.Frames.{context_of, live_of}
-use Rattle.rhai_parser_shared.specs.Readers.{binary_op, state_of}
+use Rattle.rhai_grammar.specs.Goals as what
+use Rattle.rhai_parser_shared.specs.Readers.{state_of, under}
 use Rattle.rhai_parser_expressions.proofs.RunLemmas.{Awaits, Pushes, awaits_done, awaits_refused, nothing_waits}
 use Rattle.rhai_parser_expressions.proofs.RunLemmas.{popped_as, popped_less, popped_limit, popped_refused, pushed_as}
 use Rattle.rhai_parser_expressions.proofs.RunLemmas.{right_refused, run_ends, run_goes_on}
@@ -40,7 +41,7 @@ returns-in_err-side g c = record {
       let run = c.loop-operator.run in
       let s = state_of c.loop-operator.shared in
       let found = run_goes_on (context_of c.args.self.now.engine.now c.args.frame.now run.settings) (live_of c.args.frame.now) run.settings.pos run.parent (chain_view run.lhs) s c.loop-operator.next c.loop-operator.invariant.next c.in-Some.operator (sym c.in_run.ensures ∙ c.in-Some.is) in
-      let read = c.in_err-side.ensures.reads (binary_op run.settings.pos run.parent (chain_view run.lhs) c.args.self.now.engine.now c.args.frame.now run.settings) s (omega (arith)) in
+      let read = c.in_err-side.ensures.reads (under (what.BinaryOp run.settings.pos run.parent (chain_view run.lhs)) c.args.self.now.engine.now c.args.frame.now run.settings) s (omega (arith)) in
       rw (p.1, p.2) (
         λ told. awaits_refused c.loop-operator.invariant.awaits (right_refused _ _ _ _ _ c.in-Some.operator.strength _ s _ _ found (read.0 told)),
         read.1,
@@ -62,7 +63,7 @@ pushes g c =
     let less : 1 ≤ start.max_expr_depth → levels_left side.deeper.next ≤ levels_left start = grind arith in
     record {
       found = run_goes_on (context_of c.args.self.now.engine.now c.args.frame.now run.settings) (live_of c.args.frame.now) run.settings.pos run.parent (chain_view run.lhs) s c.loop-operator.next c.loop-operator.invariant.next c.in-Some.operator (sym c.in_run.ensures ∙ c.in-Some.is);
-      reads = c.in_ok-side.ensures.reads (binary_op run.settings.pos run.parent (chain_view run.lhs) c.args.self.now.engine.now c.args.frame.now run.settings) s (omega (arith))
+      reads = c.in_ok-side.ensures.reads (under (what.BinaryOp run.settings.pos run.parent (chain_view run.lhs)) c.args.self.now.engine.now c.args.frame.now run.settings) s (omega (arith))
           ∙ ap (λ (o : Token). Done (lexeme o, side.pos, chain_view side.rhs) t) (sym is.operator.0)
           ∙ ap (λ (at : Position). Done (lexeme outer.op_token, at, chain_view side.rhs) t) (sym is.operator.1)
           ∙ ap (λ (x : Chain). Done (lexeme outer.op_token, outer.pos, chain_view x) t) (sym is.side.0);
@@ -96,7 +97,7 @@ loop-operator-preserved-then-is_some g c =
 
 -- the operator waits for the operand after it alone, where no other goes on with that
 waits_alone : (g : _) (c : After-join g) → Awaits c.args.self.now.engine.now c.args.frame.now c.args.settings (left (state_of c.parse_operator.new.shared).cursor.tokens) (c.loop-operator.pending.items ++ c.after-outer.result.0 ∷ [])
-    (result_of (binary_op (position_of (chain_view c.args.lhs)) c.args.parent (chain_view c.args.lhs) c.args.self.now.engine.now c.args.frame.now c.args.settings) (state_of c.args.shared.now))
+    (result_of (under (what.BinaryOp (position_of (chain_view c.args.lhs)) c.args.parent (chain_view c.args.lhs)) c.args.self.now.engine.now c.args.frame.now c.args.settings) (state_of c.args.shared.now))
     (Done (chain_view c.after-outer.result.1.lhs) (state_of c.parse_operator.new.shared))
 waits_alone g c =
     let side = c.after-outer.result.1 in

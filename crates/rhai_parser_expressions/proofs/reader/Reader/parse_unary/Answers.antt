@@ -1,7 +1,7 @@
 use Rattle.std.proofs.Common.{◌≡◌, ◌∙◌, Err, Ok, ap, arith, refl, sym}
 use Rattle.rhai_trees.specs.Chains.{chain_view}
 use Rattle.rhai_grammar.specs.Beginnings.{beginning}
-use Rattle.rhai_grammar_reading.specs.Reading.{Primary}
+use Rattle.rhai_grammar_reading.specs.Reading.{In, Primary}
 use Rattle.rhai_grammar_reading.specs.Running.{next_item, entering, after_peek, result_of}
 use Rattle.rhai_grammar_reading.specs.Running as R
 use Rattle.rhai_grammar_reading.proofs.Steps.{looked, nested_done}
@@ -9,7 +9,8 @@ use Rattle.rhai_parser_shared.proofs.Given.{gives_so}
 use Rattle.rhai_parser_expressions.proofs.OperandLemmas.{counted_once, operand_begun}
 use Rattle.rhai_parser_expressions.proofs.PrimaryLemmas.{value_unsigned}
 use Rattle.rhai_parser_shared.specs.Frames.{context_of, live_of}
-use Rattle.rhai_parser_shared.specs.Readers.{nesting_of, operand, state_of}
+use Rattle.rhai_grammar.specs.Goals as what
+use Rattle.rhai_parser_shared.specs.Readers.{nesting_of, state_of, under}
 use Rattle.rhai_parser_expressions.proofs.reader.Reader.parse_unary.Goals as goal
 
 pub returns-in-Ok : goal.returns-in-Ok
@@ -17,7 +18,7 @@ returns-in-Ok g c = record {
   goes_on = grind arith;
   stays = grind arith;
   reads =
-      let goal = operand c.args.self.now.engine.now c.args.frame.now c.args.settings in
+      let goal = under what.Operand c.args.self.now.engine.now c.args.frame.now c.args.settings in
       gives_so chain_view (Ok c.in-Ok.operand) (state_of c.parse_plain.new.shared)
       (sym (looked goal _ (state_of c.args.shared.now) refl) ∙ ap (result_of goal) (grind arith)) c.in-Ok.ensures.reads;
 }
@@ -27,7 +28,7 @@ returns-in-Err g c = record {
   goes_on = grind arith;
   stays = grind arith;
   reads =
-      let goal = operand c.args.self.now.engine.now c.args.frame.now c.args.settings in
+      let goal = under what.Operand c.args.self.now.engine.now c.args.frame.now c.args.settings in
       gives_so chain_view (Err c.in-Err.error) (state_of c.parse_plain.new.shared)
       (sym (looked goal _ (state_of c.args.shared.now) refl) ∙ ap (result_of goal) (grind arith)) c.in-Err.ensures.reads;
 }
@@ -37,7 +38,7 @@ returns-in-Ok-parse_rare g c = record {
   goes_on = grind arith;
   stays = grind arith;
   reads =
-      let goal = operand c.args.self.now.engine.now c.args.frame.now c.args.settings in
+      let goal = under what.Operand c.args.self.now.engine.now c.args.frame.now c.args.settings in
       gives_so chain_view (Ok c.in-Ok-parse_rare.operand) (state_of c.parse_rare.new.shared)
       (sym (looked goal _ (state_of c.args.shared.now) refl) ∙ ap (result_of goal) (grind arith)) c.in-Ok-parse_rare.ensures.reads;
 }
@@ -47,7 +48,7 @@ returns-in-Err-parse_rare g c = record {
   goes_on = grind arith;
   stays = grind arith;
   reads =
-      let goal = operand c.args.self.now.engine.now c.args.frame.now c.args.settings in
+      let goal = under what.Operand c.args.self.now.engine.now c.args.frame.now c.args.settings in
       gives_so chain_view (Err c.in-Err-parse_rare.error) (state_of c.parse_rare.new.shared)
       (sym (looked goal _ (state_of c.args.shared.now) refl) ∙ ap (result_of goal) (grind arith)) c.in-Err-parse_rare.ensures.reads;
 }
@@ -64,7 +65,7 @@ returns-in_ok-value-in-Value g c = record {
       let entered : state_of c.nested-enter.new.self ≡ entering (after_peek s) = grind arith in
       gives_so chain_view c.parse_ends.result (state_of c.parse_ends.new.shared)
       (operand_begun context live (chain_view c.from_value-operand.result) s t (grind arith) (value_unsigned (beginning (next_item s).lexeme) (grind arith))
-      (nested_done (result_of (Primary context live)) (after_peek s) entered (c.in_ok-value-in-Value.ensures.reads context live) c.nested-leave.ensures.leaves
+      (nested_done (result_of (In Primary context live)) (after_peek s) entered (c.in_ok-value-in-Value.ensures.reads context live) c.nested-leave.ensures.leaves
       ∙ ap (λ x. R.Done x t) (sym c.from_value-operand.ensures)))
       (c.parse_ends.ensures.reads s (grind arith));
 }

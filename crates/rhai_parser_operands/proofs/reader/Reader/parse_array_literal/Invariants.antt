@@ -2,13 +2,14 @@ use Rattle.std.proofs.Common.{◌≡◌}
 use Rattle.rhai_lower.specs.Nodes.{no_nodes}
 use Rattle.rhai_grammar.specs.Cursors.{left}
 use Rattle.rhai_grammar_reading.specs.Running.{result_of}
-use Rattle.rhai_parser_shared.specs.Readers.{GoesOn, elements, state_of, views_of}
+use Rattle.rhai_grammar.specs.Goals as what
+use Rattle.rhai_parser_shared.specs.Readers.{GoesOn, state_of, under, views_of}
 use Rattle.rhai_parser_shared.specs.Heights.{Stays}
 use Rattle.rhai_parser_operands.proofs.reader.Reader.parse_array_literal.Given as goal
 
 abbrev pub invariant-loop-items : goal.invariant-loop-items
 invariant-loop-items g l = record {
-  same : result_of (elements no_nodes l.fn.self.engine.now l.fn.frame l.fn.settings) (state_of l.fn.shared) ≡ result_of (elements (views_of l.items) l.self.engine.now l.frame l.settings) (state_of l.shared);
+  same : result_of (under (what.Elements l.fn.settings.pos no_nodes) l.fn.self.engine.now l.fn.frame l.fn.settings) (state_of l.fn.shared) ≡ result_of (under (what.Elements l.settings.pos (views_of l.items)) l.self.engine.now l.frame l.settings) (state_of l.shared);
   goes_on : GoesOn l.fn.shared l.shared;
   stays : Stays l.self.engine.now l.frame l.settings 0 l.fn.shared l.shared;
 }

@@ -7,7 +7,7 @@ use Rattle.rhai_base.specs.Libraries.{library_of}
 use Rattle.rhai_parser_shared.specs.Frames.{context_of, live_of}
 use Rattle.rhai_parser_shared.proofs.Heights.{given_up, no_function, one_begun}
 use Rattle.rhai_parser_shared.specs.Readers.{names_of, state_of}
-use Rattle.rhai_grammar_reading.specs.Reading.{Closure}
+use Rattle.rhai_grammar_reading.specs.Reading.{In, Closure}
 use Rattle.rhai_grammar_reading.specs.Running.{entering, guarded, with_captured}
 use Rattle.rhai_grammar_reading.proofs.Steps.{nested_done, nested_gives}
 use Rattle.rhai_parser_operands.proofs.ClosureLemmas.{Begun, body_fails, body_gives, context_inside, ends_gives}
@@ -92,5 +92,5 @@ returns g c = record {
       (ends_gives chain_view context w c.args.settings.pos c.args.bars names s t (statement_view c.in_ok-body.body) u
       (uses_of c.end_apart-captured.result.items) (state_of c.end_apart-captured.new.self) c.end_closure.result (state_of c.end_closure.new.shared)
       c.end_apart-captured.ensures.captured (c.end_apart-captured.ensures.back ∙ ap (λ us. with_captured us u) c.begin_apart-outer.ensures.outer)
-      (c.end_closure.ensures.gives engine (guarded (Closure context w c.args.settings.pos c.args.bars) s)));
+      (c.end_closure.ensures.gives engine (guarded (In (Closure c.args.settings.pos c.args.bars) context w) s)));
 }

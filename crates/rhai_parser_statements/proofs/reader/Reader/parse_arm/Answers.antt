@@ -1,7 +1,7 @@
 use Rattle.std.proofs.Common.{ap, arith}
 use Rattle.rhai_lower.specs.View.{view}
 use Rattle.rhai_grammar.specs.Cursors.{cursor_of}
-use Rattle.rhai_grammar_reading.specs.Reading.{Arm, ArmEnd}
+use Rattle.rhai_grammar_reading.specs.Reading.{In, Arm, ArmEnd}
 use Rattle.rhai_grammar_reading.proofs.Steps.{guarded_is, nested_done}
 use Rattle.rhai_parser_shared.specs.Frames.{context_of, live_of}
 use Rattle.rhai_parser_statements.proofs.SwitchLemmas.{ReadsArm, arm_runs}
@@ -37,7 +37,7 @@ returns g c = record {
         after_arrow = grind arith;
       } in
       gives_so arm_view c.end_arm.result (state_of c.end_arm.new.shared) (arm_runs (arms_view c.args.arms.now) h)
-      (c.end_arm.ensures.gives (guarded (Arm context live (arms_view c.args.arms.now)) s) (guarded_is _ _ (ArmEnd c.in_ok-does.does.ends) s4 (grind arith)));
+      (c.end_arm.ensures.gives (guarded (In (Arm (arms_view c.args.arms.now)) context live) s) (guarded_is _ _ (ArmEnd c.in_ok-does.does.ends) s4 (grind arith)));
 }
 
 pub returns-in_err-match_token : goal.returns-in_err-match_token

@@ -1,7 +1,7 @@
 use Rattle.std.proofs.Common.{arith, rules}
 use Rattle.rhai_lower.specs.View.{view}
 use Rattle.rhai_grammar.specs.Cursors.{cursor_of}
-use Rattle.rhai_grammar_reading.specs.Reading.{ArmEnd, DefaultArm, DefaultEnd}
+use Rattle.rhai_grammar_reading.specs.Reading.{In, ArmEnd, DefaultArm, DefaultEnd}
 use Rattle.rhai_grammar_reading.proofs.Steps.{guarded_is, nested_done}
 use Rattle.rhai_parser_shared.specs.Frames.{context_of, live_of}
 use Rattle.rhai_parser_statements.specs.Switches.{action_view}
@@ -29,7 +29,7 @@ returns g c = record {
         action = nested_done _ _ c.nested-enter.ensures.enters c.in_ok-does.ensures.reads c.nested-leave.ensures.leaves;
         shorter = grind arith;
       } in
-      let call = guarded (DefaultArm context live c.args.default) s in
+      let call = guarded (In (DefaultArm c.args.default) context live) s in
       gives_so view c.end_default.result (state_of c.end_default.new.shared) (default_runs c.args.default h)
       (c.end_default.ensures.gives call (guarded_is _ _ (ArmEnd c.in_ok-does.does.ends) s2 (grind arith)) (λ t le. guarded_is _ _ (DefaultEnd c.args.default) t (grind (arith, le))));
 }

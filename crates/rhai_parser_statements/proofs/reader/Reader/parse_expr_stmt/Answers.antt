@@ -2,7 +2,8 @@ use Rattle.std.proofs.Common.{arith}
 use Rattle.std.proofs.lemmas.Result.{err_from_is_err_and}
 use Rattle.rhai_lower.specs.View.{statement_view}
 use Rattle.rhai_grammar_reading.specs.Running.{guarded}
-use Rattle.rhai_parser_shared.specs.Readers.{expr_statement, state_of}
+use Rattle.rhai_grammar.specs.Goals as what
+use Rattle.rhai_parser_shared.specs.Readers.{state_of, under}
 use Rattle.rhai_parser_statements.proofs.reader.Reader.parse_expr_stmt.Goals as goal
 use Rattle.rhai_parser_shared.proofs.Given.{gives_so}
 use Rattle.rhai_parser_statements.proofs.StmtReaders as rule
@@ -21,6 +22,6 @@ returns-clause-reads g c = record {
   goes_on = grind arith;
   stays = grind arith;
   reads =
-      let call = guarded (expr_statement c.args.self.now.engine.now c.args.frame.now c.args.settings) (state_of c.args.shared.now) in
+      let call = guarded (under what.ExprStatement c.args.self.now.engine.now c.args.frame.now c.args.settings) (state_of c.args.shared.now) in
       gives_so statement_view c.end_assignment.result (state_of c.parse_expr-2.new.shared) (grind (arith, rule.parse_expr_stmt)) (c.end_assignment.ensures.gives call _);
 }

@@ -4,7 +4,7 @@ use Rattle.rhai_lower.specs.View.{statement_view}
 use Rattle.rhai_base.specs.Comments.{comments_of}
 use Rattle.rhai_parser_shared.specs.Frames.{context_of, live_of}
 use Rattle.rhai_parser_shared.specs.Readers.{ended_view, state_of, with_live}
-use Rattle.rhai_grammar_reading.specs.Reading.{FunctionStatement}
+use Rattle.rhai_grammar_reading.specs.Reading.{In, FunctionStatement}
 use Rattle.rhai_grammar_reading.specs.Running.{guarded}
 use Rattle.rhai_grammar_reading.proofs.Steps.{nested_done, nested_gives}
 use Rattle.rhai_base.specs.Libraries.{library_of}
@@ -63,7 +63,7 @@ returns g c = record {
         context = context_inside c.args.self.now.engine.now c.args.frame.now c.of_function-inner.result c.args.settings c.in_ok-deeper.deeper (search rules) (search rules) (search rules) (search rules);
         stands = search rules;
       } in
-      let call = guarded (FunctionStatement context (live_of c.args.frame.now) (comments_of c.args.comments.now) c.args.first c.args.settings.pos c.args.private) (state_of c.args.shared.now) in
+      let call = guarded (In (FunctionStatement (comments_of c.args.comments.now) c.args.first c.args.settings.pos c.args.private) context (live_of c.args.frame.now)) (state_of c.args.shared.now) in
       function_gives (with_live statement_view c.args.frame.now) context (live_of c.args.frame.now) (comments_of c.args.comments.now) c.args.first c.args.settings.pos c.args.private inside c.in_ok-deeper.deeper.pos (state_of c.args.shared.now) begun
       (ended_view (c.in_ok-key.key, c.in_ok-key.function)) (state_of c.nested-leave.new.self) (nested_done _ _ c.nested-enter.ensures.enters c.in_ok-key.ensures.reads c.nested-leave.ensures.leaves)
       c.end_function.result (state_of c.end_function.new.shared) (c.end_function.ensures.gives call (live_of c.args.frame.now));

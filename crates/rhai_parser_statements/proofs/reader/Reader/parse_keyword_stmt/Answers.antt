@@ -2,7 +2,8 @@ use Rattle.std.proofs.Common.{◌≡◌, arith, rules, ap, sym}
 use Rattle.rhai_lower.specs.View.{statement_view}
 use Rattle.rhai_grammar.specs.Settings.{Settings}
 use Rattle.rhai_parser_shared.specs.Frames.{context_of, live_of}
-use Rattle.rhai_parser_shared.specs.Readers.{state_of, statement, with_live}
+use Rattle.rhai_grammar.specs.Goals as what
+use Rattle.rhai_parser_shared.specs.Readers.{state_of, under, with_live}
 use Rattle.rhai_parser_shared.proofs.Given.{gives_so}
 use Rattle.rhai_parser_shared.proofs.Heights.{room_same}
 use Rattle.rhai_grammar.specs.declared.role.StatementStart.TheVariants as start
@@ -37,7 +38,7 @@ returns-in-Function g c = record {
       let begun = c.requires.keyword in
       gives_so (with_live statement_view frame) c.parse_plain_fn.result (state_of c.parse_plain_fn.new.shared)
       (function_starts context inside (live_of frame) c.at-settings.result.pos old old begun.readable (search rules) (sym same) (search rules) begun.looked)
-      (c.parse_plain_fn.ensures.reads (statement engine frame c.args.settings) old (grind arith));
+      (c.parse_plain_fn.ensures.reads (under what.Statement engine frame c.args.settings) old (grind arith));
 }
 
 pub returns-in-Private : goal.returns-in-Private
@@ -58,7 +59,7 @@ returns-in-Private g c = record {
       let begun = c.requires.keyword in
       gives_so (with_live statement_view frame) c.parse_private_fn.result (state_of c.parse_private_fn.new.shared)
       (private_starts context inside (live_of frame) c.at-settings.result.pos old old begun.readable (search rules) (sym same) (search rules) begun.looked)
-      (c.parse_private_fn.ensures.reads (statement engine frame c.args.settings) old (grind arith));
+      (c.parse_private_fn.ensures.reads (under what.Statement engine frame c.args.settings) old (grind arith));
 }
 
 pub returns-in-Comment : goal.returns-in-Comment
@@ -79,5 +80,5 @@ returns-in-Comment g c = record {
       let begun = c.requires.keyword in
       gives_so (with_live statement_view frame) c.parse_documented_fn.result (state_of c.parse_documented_fn.new.shared)
       (statement_starts context inside (live_of frame) start.Comment old old begun.readable (search rules) (sym same) begun.looked)
-      (c.parse_documented_fn.ensures.reads (statement engine frame c.args.settings) old (grind arith));
+      (c.parse_documented_fn.ensures.reads (under what.Statement engine frame c.args.settings) old (grind arith));
 }

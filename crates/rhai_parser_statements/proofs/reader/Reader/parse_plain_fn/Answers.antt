@@ -3,7 +3,8 @@ use Rattle.rhai_lower.specs.View.{statement_view}
 use Rattle.rhai_grammar.specs.Cursors.{cursor_of}
 use Rattle.rhai_base.specs.Comments.{comments_of}
 use Rattle.rhai_parser_shared.specs.Frames.{context_of, live_of}
-use Rattle.rhai_parser_shared.specs.Readers.{function_statement, state_at, state_of, with_live}
+use Rattle.rhai_grammar.specs.Goals as what
+use Rattle.rhai_parser_shared.specs.Readers.{state_at, state_of, under, with_live}
 use Rattle.rhai_grammar_reading.specs.Running.{result_of}
 use Rattle.rhai_parser_shared.proofs.Given.{gives_so}
 use Rattle.rhai_grammar_reading.proofs.Steps.{nested_gives}
@@ -19,7 +20,7 @@ returns g c = record {
       let engine = c.args.self.now.engine.now in
       let frame = c.args.frame.now in
       let comments = comments_of c.args.comments.now in
-      let read = result_of (function_statement comments c.args.settings.pos false engine frame c.args.settings) in
+      let read = result_of (under (what.FunctionStatement comments c.args.settings.pos c.args.settings.pos false) engine frame c.args.settings) in
       let from = state_at c.args.shared.now (cursor_of c.skip.new.input) in
       gives_so (with_live statement_view frame) c.parse_fn.result (state_of c.nested-leave.new.self)
       (plain_read h s (context_of engine frame c.args.settings) (live_of frame) comments c.args.settings.pos (state_of c.args.shared.now) from c.requires.at.readable

@@ -3,7 +3,8 @@ use Rattle.rhai_lower.specs.View.{statement_view}
 use Rattle.rhai_grammar.specs.Cursors.{cursor_of}
 use Rattle.rhai_base.specs.Comments.{comments_of}
 use Rattle.rhai_parser_shared.specs.Frames.{context_of, live_of}
-use Rattle.rhai_parser_shared.specs.Readers.{function_statement, state_at, state_of, with_live}
+use Rattle.rhai_grammar.specs.Goals as what
+use Rattle.rhai_parser_shared.specs.Readers.{state_at, state_of, under, with_live}
 use Rattle.rhai_parser_statements.specs.Readers.{private_on}
 use Rattle.rhai_grammar_reading.specs.Running.{exec, guarded, nested, result_of}
 use Rattle.std.proofs.lemmas.Result.{err_from_is_err_and}
@@ -34,7 +35,7 @@ returns g c = record {
       let engine = c.args.self.now.engine.now in
       let frame = c.args.frame.now in
       let comments = comments_of c.args.comments.now in
-      let read = result_of (function_statement comments c.args.settings.pos true engine frame c.at-inner.result) in
+      let read = result_of (under (what.FunctionStatement comments c.args.settings.pos c.at-inner.result.pos true) engine frame c.at-inner.result) in
       let from = state_at c.args.shared.now (cursor_of c.match_token.new.input) in
       let same : exec (guarded h s) (private_on (context_of engine frame c.args.settings) (live_of frame) comments c.args.settings.pos) (state_of c.args.shared.now) ≡ nested read from = grind (arith, rule.parse_private_fn) in
       let given = nested_gives (with_live statement_view frame) read from _ _ _ c.parse_fn.result c.nested-enter.ensures.enters c.parse_fn.ensures.reads c.nested-leave.ensures.leaves in
