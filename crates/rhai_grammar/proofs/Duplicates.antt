@@ -35,8 +35,7 @@ spared : (v : Verdict) (at : Position) (e : Refusal) → is_duplicate v ≡ fals
     → duplicates_closure e.cause ≡ false
 spared (Wrong why) at e h r = same_cause e (refusal why at) r h
 spared (Blames d) at e h r = same_cause e d r h
-spared Fine at e h r = absurd r
-spared Otherwise at e h r = absurd r
+spared _ at e h r = absurd r
 
 -- the error for a token
 pub refused : (v : Lexeme → Verdict) (i : Item) (e : Refusal) → Spares v → Refused v i e

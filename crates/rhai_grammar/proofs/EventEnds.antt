@@ -1,15 +1,12 @@
 -- Where functions and closures end.
-use Rattle.std.proofs.Common.{◌≡◌, ℕ, Bool, true, false, refl, sym, ap}
-use Rattle.std.proofs.Common.{◌∙◌}
+use Rattle.std.proofs.Common.{◌≡◌, ℕ, Bool, true, false, refl, sym, ap, ◌∙◌}
 use Rattle.std.proofs.lemmas.Bool.{and_parts}
 use Rattle.std.proofs.lemmas.List.{take-append-drop}
 use Rattle.std.proofs.lemmas.List.Folds.{list_all-append}
 use Rattle.std.specs.Cmp.Lexicographic as L
 use Rattle.std.specs.List.{list_all, starts_with}
 use Rattle.std.specs.Prelude.{Option, codes, drop, nat_eq, not, take}
-use Rattle.rhai_grammar.specs.Prelude.{is_identifier, Text}
-use Rattle.rhai_grammar.specs.Prelude.{names_function}
-use Rattle.rhai_grammar.specs.Prelude.{is_closure}
+use Rattle.rhai_grammar.specs.Prelude.{is_identifier, Text, names_function, is_closure}
 use Rattle.rhai_lower.specs.Names.{begins_with_letter, first_but_underscore, is_reserved, is_word}
 
 words_only : (name : Text) → names_function name ≡ true → list_all is_word name ≡ true

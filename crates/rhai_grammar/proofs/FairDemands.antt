@@ -8,10 +8,9 @@ use Rattle.rhai_grammar.specs.Delivered as M
 use Rattle.rhai_grammar.specs.Demands.{Refused, Refuses}
 
 unrefused : (v : Verdict) (at : Position) (e : Refusal) → is_refused v ≡ false → Refuses v at e → ⊥
-unrefused (Wrong cause) at e h r = absurd cc
-unrefused (Blames d) at e h r = absurd cc
 unrefused Fine at e h r = r
 unrefused Otherwise at e h r = r
+unrefused _ at e h r = absurd cc
 
 -- a required token is not refused
 stands : (others : Lexeme → Verdict) (i due : Item) (e : Refusal) → is_refused (verdict others due.lexeme) ≡ false → i ≡ due → Refused others i e → ⊥

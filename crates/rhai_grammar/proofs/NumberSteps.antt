@@ -2,24 +2,19 @@
 use Rattle.std.proofs.Common.{◌≡◌, ◌∙◌, ℕ, suc, Bool, true, false, List, [], ◌∷◌, ◌++◌, Option, Some}
 use Rattle.std.proofs.Common.{None, length, refl, sym, ap, if◌then◌else◌}
 use Rattle.std.proofs.lemmas.List.{map-append}
-use Rattle.rhai_grammar.specs.Prelude.{Text, Lexeme, Node, Nodes, made_block, Position, SlotValue, fresh_slot}
-use Rattle.rhai_grammar.specs.Prelude.{value_of}
+use Rattle.rhai_grammar.specs.Prelude.{Text, Lexeme, Node, Nodes, made_block, Position, SlotValue, fresh_slot, value_of}
 use Rattle.rhai_grammar.specs.Prelude.{Bracket, Chain, Dotted, Link, LinkKind, chain_of, chained, is_last, link_node}
-use Rattle.rhai_grammar.specs.Prelude.{nest, captured_nodes, closure_node, shared_names, Live}
-use Rattle.rhai_grammar.specs.Prelude.{loop_live}
-use Rattle.rhai_grammar.specs.Prelude.{reused}
-use Rattle.rhai_grammar.specs.Prelude.{joined, joined_tree, part_of_list}
-use Rattle.rhai_grammar.specs.Prelude.{affected, number, Collected, with_arm_collected, with_case, with_cases}
-use Rattle.rhai_grammar.specs.Prelude.{with_default_collected, with_value, same_value, AllWellNumbered, WellNumbered}
-use Rattle.rhai_grammar.specs.Prelude.{WellNumberedBlock, WellNumberedStatement, names_in}
-use Rattle.rhai_grammar.specs.Prelude.{slots_of, Use}
+use Rattle.rhai_grammar.specs.Prelude.{nest, captured_nodes, closure_node, shared_names, Live, loop_live, reused}
+use Rattle.rhai_grammar.specs.Prelude.{joined, joined_tree, part_of_list, affected, number, Collected}
+use Rattle.rhai_grammar.specs.Prelude.{with_arm_collected, with_case, with_cases, with_default_collected, with_value}
+use Rattle.rhai_grammar.specs.Prelude.{same_value, AllWellNumbered, WellNumbered, WellNumberedBlock}
+use Rattle.rhai_grammar.specs.Prelude.{WellNumberedStatement, names_in, slots_of, Use}
 use Rattle.rhai_lower.specs.Nodes as node
 use Rattle.rhai_lower.specs.Nodes.{Arms, Cases}
 use Rattle.rhai_lower.specs.declared.token.Token.TheVariants as token
 use Rattle.rhai_grammar.specs.Operators as O
-use Rattle.rhai_grammar.specs.TreeNumbers.{AllLinks, AreWellShared, IsCollected, IsReused, WellNumberedArms, WellNumberedCases}
-use Rattle.rhai_grammar.specs.TreeNumbers.{names_in_loop}
-use Rattle.rhai_grammar.specs.TreeNumbers.{number_among}
+use Rattle.rhai_grammar.specs.TreeNumbers.{AllLinks, AreWellShared, IsCollected, IsReused, WellNumberedArms}
+use Rattle.rhai_grammar.specs.TreeNumbers.{WellNumberedCases, names_in_loop, number_among}
 use Rattle.rhai_grammar.specs.declared.role.Effect.{Effect}
 use Rattle.rhai_grammar.specs.declared.role.Effect.TheVariants.{Negates, Keeps}
 use Rattle.rhai_grammar.specs.declared.role.Joining.{Joining}
@@ -139,8 +134,7 @@ items ns _ n h = (h, tt)
 
 list : (ns : List Text) (k : ListKind) (xs : Nodes) (p : Position) → AllWellNumbered ns xs → WellNumbered ns (O.list_tree k xs p)
 list ns lists.And xs p h = h
-list ns lists.Or xs p h = h
-list ns lists.Coalesce xs p h = h
+list ns _ xs p h = h
 
 pub operator : (ns : List Text) (j : Joining) (op : Lexeme) (p : Position) (a b : Node) → WellNumbered ns a → WellNumbered ns b
     → WellNumbered ns (joined_tree j op p a b)

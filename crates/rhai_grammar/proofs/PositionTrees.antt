@@ -5,12 +5,11 @@ use Rattle.std.specs.Option.{option_or}
 use Rattle.rhai_lower.specs.Nodes as node
 use Rattle.rhai_lower.specs.Nodes.{block_start, first_start, start_of}
 use Rattle.rhai_lower.specs.declared.token.Token.TheVariants as token
-use Rattle.rhai_grammar.specs.Prelude.{Bracket, Chain, Collected, Context, Dotted, Lexeme, Link, LinkKind}
-use Rattle.rhai_grammar.specs.Prelude.{Live, Node, Nodes, Part, Position, Refusal, Text, Use, affected, arm_fault}
-use Rattle.rhai_grammar.specs.Prelude.{chain_of, chained, closure_node, guard_fault, index_refusal, is_last}
-use Rattle.rhai_grammar.specs.Prelude.{iterated_fault, joined, joined_tree, last_fault, link_node}
-use Rattle.rhai_grammar.specs.Prelude.{module_fault, nest, part_of_list, target_fault, value_of}
-use Rattle.rhai_grammar.specs.Prelude.{with_case}
+use Rattle.rhai_grammar.specs.Prelude.{Bracket, Chain, Collected, Context, Dotted, Lexeme, Link, LinkKind, Live, Node}
+use Rattle.rhai_grammar.specs.Prelude.{Nodes, Part, Position, Refusal, Text, Use, affected, arm_fault, chain_of}
+use Rattle.rhai_grammar.specs.Prelude.{chained, closure_node, guard_fault, index_refusal, is_last, iterated_fault}
+use Rattle.rhai_grammar.specs.Prelude.{joined, joined_tree, last_fault, link_node, module_fault, nest, part_of_list}
+use Rattle.rhai_grammar.specs.Prelude.{target_fault, value_of, with_case}
 use Rattle.rhai_grammar.specs.Causes as cause
 use Rattle.rhai_grammar.specs.Chains.{link_fault}
 use Rattle.rhai_grammar.specs.Constructs.{type_fault}
@@ -160,17 +159,14 @@ module _ (G : Position → Type 0) where
 
   is_list : (k : ListKind) (ns : Nodes) (p : Position) → G p → G (first_start ns p) → Placed (list_tree k ns p)
   is_list lists.And ns p g h = (g, h)
-  is_list lists.Or ns p g h = (g, h)
-  is_list lists.Coalesce ns p g h = (g, h)
+  is_list _ ns p g h = (g, h)
 
   pub operator : (j : Joining) (op : Lexeme) (at : Position) (x y : Node) → G at → Placed x → Placed y
       → Placed (joined_tree j op at x y)
   operator (joins.List k) op at x y g h i =
       let a = is_part k x h in
       is_list k _ _ (at_list (part_of_list k x) at g a) (first (part_of_list k x) (part_of_list k y) at g a (is_part k y i))
-  operator joins.Membership op at x y g h i = g
-  operator joins.NoMembership op at x y g h i = g
-  operator joins.Call op at x y g h i = g
+  operator _ op at x y g h i = g
 
   -- ---- errors
 

@@ -34,8 +34,7 @@ module _ (G : Position → Type 0) where
   refuses : (x : Verdict) (at : Position) (e : Refusal) → BlamesAt G x → G at → Refuses x at e → G e.at
   refuses (Wrong c) at e b g r = subst (λ (x : Refusal). G x.at) (sym r) g
   refuses (Blames d) at e b g r = at_same e d r b
-  refuses Fine at e b g r = absurd r
-  refuses Otherwise at e b g r = absurd r
+  refuses _ at e b g r = absurd r
 
   -- an error for the next token, where it is requested in this mode
   refused : (v : Lexeme → Verdict) (s t : Point) (e : Refusal) (m o : Mode) → Places G v → Ends G m t

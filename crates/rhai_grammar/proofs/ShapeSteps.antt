@@ -72,8 +72,7 @@ part_stands (O.Single n) = refl
 
 pub list : (k : ListKind) (ns : Nodes) (p : Position) → node_shape (O.list_tree k ns p) ≡ O.list_tree k (nodes_shape ns) nowhere
 list lists.And ns p = refl
-list lists.Or ns p = refl
-list lists.Coalesce ns p = refl
+list _ ns p = refl
 
 parts : (k : ListKind) (p : Position) (a b : Part) → node_shape (list_of_parts k p a b) ≡ list_of_parts k nowhere (part_shape a) (part_shape b)
 parts k p a b =
@@ -89,9 +88,7 @@ join_tree (joins.List k) op p a b =
     parts k p (part_of_list k a) (part_of_list k b)
     ∙ ap (λ x. list_of_parts k nowhere x (part_shape (part_of_list k b))) (sym (operand_part k a))
     ∙ ap (λ x. list_of_parts k nowhere (part_of_list k (node_shape a)) x) (sym (operand_part k b))
-join_tree joins.Membership op p a b = refl
-join_tree joins.NoMembership op p a b = refl
-join_tree joins.Call op p a b = refl
+join_tree _ op p a b = refl
 
 -- ---- chains
 

@@ -7,9 +7,8 @@ use Rattle.std.proofs.lemmas.List.{get_or-set_same, length-append, length-set}
 use Rattle.std.proofs.Math.Seq.{get_or-append_seam}
 use Rattle.std.specs.Cmp.Lexicographic as L
 use Rattle.std.specs.Option.{option_or}
-use Rattle.rhai_grammar.specs.Prelude.{Text, same_text, is_identifier, SlotValue, fresh_slot, with_constant}
-use Rattle.rhai_grammar.specs.Prelude.{define_at, is_in_block, reused}
-use Rattle.rhai_grammar.specs.Prelude.{number}
+use Rattle.rhai_grammar.specs.Prelude.{Text, same_text, is_identifier, SlotValue, fresh_slot, with_constant, define_at}
+use Rattle.rhai_grammar.specs.Prelude.{is_in_block, reused, number}
 use Rattle.rhai_lower.specs.Slots.{slot_at, with_slot}
 use Rattle.rhai_grammar.specs.Definitions.{is_exported, is_reusable, reused_at}
 use Rattle.rhai_grammar.specs.SlotLaws.{IsDefined, IsReusable, Reuse}

@@ -1,8 +1,7 @@
 -- No test of a token says that the key of a closure is there.
 use Rattle.std.proofs.Common.{◌≡◌, Bool, true, false, refl, if◌then◌else◌, subst}
-use Rattle.rhai_grammar.specs.Prelude.{Lexeme, Faulty, Interpolated, Name, Reserved, Sign, String, Text}
-use Rattle.rhai_grammar.specs.Prelude.{Token, EOF, Cause, Context}
-use Rattle.rhai_grammar.specs.Prelude.{Properties, KeyRole, NoKey, MemberRole, AMember, NoMember}
+use Rattle.rhai_grammar.specs.Prelude.{Lexeme, Faulty, Interpolated, Name, Reserved, Sign, String, Text, Token, EOF}
+use Rattle.rhai_grammar.specs.Prelude.{Cause, Context, Properties, KeyRole, NoKey, MemberRole, AMember, NoMember}
 use Rattle.rhai_lower.specs.declared.token.Token.TheVariants.{RightBrace}
 use Rattle.rhai_grammar.specs.Beginnings as B
 use Rattle.rhai_grammar.specs.Causes as cause

@@ -1,6 +1,5 @@
 -- Spelling, as a projection of what forms demand.
-use Rattle.std.proofs.Common.{◌≡◌, Bool, true, false, [], ◌∷◌, rules, refl}
-use Rattle.std.proofs.Common.{if◌then◌else◌}
+use Rattle.std.proofs.Common.{◌≡◌, Bool, true, false, [], ◌∷◌, rules, refl, if◌then◌else◌}
 use Rattle.std.specs.Prelude.{IsTrue}
 use Rattle.std.proofs.lemmas.List.Elements.{All-head, All-tail}
 use Rattle.rhai_grammar.specs.Prelude.{Token}

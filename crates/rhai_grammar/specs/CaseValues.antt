@@ -6,9 +6,8 @@ use Rattle.std.specs.Ordering.{int_eq}
 use Rattle.rhai_lower.specs.Texts.{Text, same_text}
 use Rattle.rhai_lower.specs.Positions.{nowhere, place}
 use Rattle.rhai_lower.specs.Lexemes.{Lexeme, Sign}
-use Rattle.rhai_lower.specs.Nodes.{Node, Nodes, Properties, unit, boolean, integer, character, string}
-use Rattle.rhai_lower.specs.Nodes.{array, call, no_nodes, no_properties, object_map, one_node, one_property}
-use Rattle.rhai_lower.specs.Nodes.{pointer}
+use Rattle.rhai_lower.specs.Nodes.{Node, Nodes, Properties, unit, boolean, integer, character, string, array, call}
+use Rattle.rhai_lower.specs.Nodes.{no_nodes, no_properties, object_map, one_node, one_property, pointer}
 use Rattle.rhai_lower.specs.declared.token.Token.{Token}
 use Rattle.rhai_lower.specs.declared.token.Token.TheVariants.{ExclusiveRange, InclusiveRange}
 use Rattle.rhai_grammar.specs.Literals.{has_key, property_count}

@@ -1,6 +1,5 @@
 -- An operand with brackets and dots, and its nested tree.
-use Rattle.std.specs.Prelude.{◌≡◌, Bool, true, false, ◌&&◌, ◌||◌, ◌++◌, ◌∷◌, [], List, Option, Some, None}
-use Rattle.std.specs.Prelude.{option_map}
+use Rattle.std.specs.Prelude.{◌≡◌, Bool, true, false, ◌&&◌, ◌||◌, ◌++◌, ◌∷◌, [], List, Option, Some, None, option_map}
 use Rattle.std.specs.Prelude.{if◌then◌else◌, codes, refl}
 use Rattle.std.specs.Option.{option_or}
 use Rattle.rhai_lower.specs.Texts.{Text, same_text}

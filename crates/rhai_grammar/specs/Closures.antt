@@ -3,8 +3,7 @@ use Rattle.std.specs.Prelude.{ℕ, zero, suc, ◌+◌, ◌/◌, ◌%◌, ◌++�
 use Rattle.std.specs.Prelude.{codes, if◌then◌else◌, length, map, nat_lt}
 use Rattle.rhai_lower.specs.Slots.{SlotValue}
 use Rattle.rhai_lower.specs.Nodes.{Block, Called, Node, Nodes, block_value, braces, call, expression, no_nodes}
-use Rattle.rhai_lower.specs.Nodes.{no_statements}
-use Rattle.rhai_lower.specs.Nodes.{one_node, one_statement, pointer, share, variable}
+use Rattle.rhai_lower.specs.Nodes.{no_statements, one_node, one_statement, pointer, share, variable}
 use Rattle.rhai_lower.specs.Positions.{nowhere}
 use Rattle.rhai_lower.specs.Texts.{Text}
 use Rattle.rhai_lower.specs.declared.position.Position.{Position}

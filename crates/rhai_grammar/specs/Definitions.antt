@@ -1,8 +1,7 @@
 -- What a definition does to the slots. The latest slot of its name is used again if it is in the current block and is
 -- not exported; otherwise there is a new slot.
 use Rattle.std.specs.Prelude.{◌≡◌, ℕ, ◌-◌, Bool, true, false, ◌&&◌, ◌||◌, ◌++◌, not, List, [], ◌∷◌, Option, Some, None}
-use Rattle.std.specs.Prelude.{length, nat_lt, unwrap_or, codes, refl}
-use Rattle.std.specs.Prelude.{if◌then◌else◌}
+use Rattle.std.specs.Prelude.{length, nat_lt, unwrap_or, codes, refl, if◌then◌else◌}
 use Rattle.rhai_lower.specs.Texts.{Text}
 use Rattle.rhai_lower.specs.Slots.{SlotValue, fresh_slot, with_slot, with_alias, with_constant}
 use Rattle.rhai_grammar.specs.Contexts.{Context, Live, allows_shadowing, in_block}

@@ -7,11 +7,11 @@ use Rattle.rhai_grammar.specs.Uses.{Use, with_use}
 use Rattle.rhai_grammar.specs.Libraries.{Ended, Library, with_ended, is_function}
 use Rattle.rhai_grammar.specs.Goals.{Goal, Val}
 use Rattle.rhai_grammar.specs.Productions.{Production}
-use Rattle.rhai_grammar.specs.Forms.{given, of_kind, any, if_so, if_not, by_next, at_next, must, checked, knows, adds, uses}
-use Rattle.rhai_grammar.specs.Forms.{captures, part, literal, apart, in_text, form, open_form, never_here, of_kind_here}
-use Rattle.rhai_grammar.specs.Forms.{must_here, checked_here, knows_here, uses_here, captures_here, part_here}
-use Rattle.rhai_grammar.specs.Forms.{literal_here, apart_here}
-use Rattle.rhai_grammar.specs.Forms.{brace_here, text_here, Form, Filled, Open, FilledIn}
+use Rattle.rhai_grammar.specs.Forms.{given, of_kind, any, if_so, if_not, by_next, at_next, must, checked, knows, adds}
+use Rattle.rhai_grammar.specs.Forms.{uses, captures, part, literal, apart, in_text, form, open_form, never_here}
+use Rattle.rhai_grammar.specs.Forms.{of_kind_here, must_here, checked_here, knows_here, uses_here, captures_here}
+use Rattle.rhai_grammar.specs.Forms.{part_here, literal_here, apart_here, brace_here, text_here, Form, Filled, Open}
+use Rattle.rhai_grammar.specs.Forms.{FilledIn}
 use Rattle.std.specs.List.{fold}
 use Rattle.std.specs.Option.{is_some}
 use Rattle.rhai_lower.specs.Texts.{Text}

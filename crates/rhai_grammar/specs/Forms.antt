@@ -76,8 +76,8 @@ module _ (rule : (g : Goal) → Production (Val g)) where
       if_not : {h : Goal} {t : Lexeme → Bool} {p q : Production (Val h)} {r : Option (Val h)} → FilledIn h q r
           → FilledIn h (S.if_next t p q) r
       -- the token that comes next is named, and is not one of the form's
-      by_next : {h : Goal} {v : View} {k : SeenBy v → Production (Val h)} {r : Option (Val h)} (l : Lexeme) (at : Position)
-          → FilledIn h (k (view v l)) r → FilledIn h (S.by_next v k) r
+      by_next : {h : Goal} {v : View} {k : SeenBy v → Production (Val h)} {r : Option (Val h)} (l : Lexeme)
+          (at : Position) → FilledIn h (k (view v l)) r → FilledIn h (S.by_next v k) r
       at_next : {h : Goal} {k : Position → Production (Val h)} {r : Option (Val h)} (l : Lexeme) (at : Position)
           → FilledIn h (k at) r → FilledIn h (S.at_next k) r
       must : {h : Goal} {b : Bool} {e : Refusal} {p : Production (Val h)} {r : Option (Val h)} → FilledIn h p r
@@ -137,7 +137,8 @@ module _ (rule : (g : Goal) → Production (Val g)) where
     pub demanded : {h : Goal} {p : Production (Val h)} {r : Option (Val h)} → FilledIn h p r → Demands → Demands
     demanded given more = more
     demanded (never_here {why = why}) more = Next (λ l. Wrong (why l)) ▸ Nothing
-    demanded (of_kind {w = w} {m = m} l at f) more = Next (wanted_or w m) ▸ Tok code (item l at) anything ▸ demanded f more
+    demanded (of_kind {w = w} {m = m} l at f) more =
+        Next (wanted_or w m) ▸ Tok code (item l at) anything ▸ demanded f more
     demanded (of_kind_here {w = w} {m = m}) more = Next (wanted_or w m) ▸ Nothing
     demanded (any l at f) more = Next any_token ▸ Tok code (item l at) anything ▸ demanded f more
     demanded (if_so {t = t} f) more = Next (only_if t) ▸ demanded f more

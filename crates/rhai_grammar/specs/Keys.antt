@@ -1,6 +1,5 @@
 -- The keys of functions, and what the keys of a library say.
-use Rattle.std.specs.Prelude.{◌≡◌, ℕ, Bool, true, false, List, [], ◌∷◌, ◌++◌, Option, None, Some, ◌&&◌, nat_eq}
-use Rattle.std.specs.Prelude.{map}
+use Rattle.std.specs.Prelude.{◌≡◌, ℕ, Bool, true, false, List, [], ◌∷◌, ◌++◌, Option, None, Some, ◌&&◌, nat_eq, map}
 use Rattle.std.specs.Prelude.{count_by, option_map, codes, refl}
 use Rattle.std.specs.Hash as fed
 use Rattle.std.specs.Hash.{HashWrites}

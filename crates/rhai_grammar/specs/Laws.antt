@@ -7,9 +7,8 @@ use Rattle.rhai_lower.specs.declared.stream.Entry.{Entry}
 use Rattle.rhai_grammar.specs.Causes.{Refusal}
 use Rattle.rhai_grammar.specs.Delivered.{Mode, Point, IsDelivered}
 use Rattle.rhai_grammar.specs.Cursors.{delivered}
-use Rattle.rhai_grammar.specs.Demands.{Verdict, Wrong, Blames, Demands, Nothing, Tok, Ahead, Next, Test, Shape}
-use Rattle.rhai_grammar.specs.Demands.{◌▸◌, Adds, Apart, Captures, Literally, TestIn, Uses}
-use Rattle.rhai_grammar.specs.Demands.{NoFault, verdict, Met, Missed}
+use Rattle.rhai_grammar.specs.Demands.{Verdict, Wrong, Blames, Demands, Nothing, Tok, Ahead, Next, Test, Shape, ◌▸◌}
+use Rattle.rhai_grammar.specs.Demands.{Adds, Apart, Captures, Literally, TestIn, Uses, NoFault, verdict, Met, Missed}
 
 -- Entries that may be delivered make a delivered stream.
 abbrev pub EntriesAreDelivered : Type 0

@@ -1,10 +1,9 @@
 -- The functions of a script, in the order in which they end.
-use Rattle.std.specs.Prelude.{◌≡◌, Bool, true, false, None, List, [], ◌∷◌, ◌++◌, map, codes, refl}
+use Rattle.std.specs.Prelude.{◌≡◌, Bool, true, false, None, List, [], ◌∷◌, ◌++◌, map, codes, refl, ℕ}
 use Rattle.rhai_lower.specs.Texts.{Text}
 use Rattle.rhai_lower.specs.Positions.{nowhere}
 use Rattle.rhai_lower.specs.Nodes.{Function, braces, no_statements}
 use Rattle.rhai_grammar.specs.Keys.{Key, closures, has_name}
-use Rattle.std.specs.Prelude.{ℕ}
 
 -- a function that has ended, with what it is found by
 pub record Ended : Type 0 where

@@ -14,17 +14,15 @@ unfoldable pub use Rattle.rhai_grammar.specs.Closures.{last_hex_digits}
 pub use Rattle.rhai_grammar.specs.CommaLists.{after_part, is_close, no_argument, not_after}
 pub use Rattle.rhai_grammar.specs.Comments.{Comment}
 unfoldable pub use Rattle.rhai_grammar.specs.Comments.{kept_after, kept_comments}
-pub use Rattle.rhai_grammar.specs.Constructs.{do_end}
-pub use Rattle.rhai_grammar.specs.Constructs.{guard_expected, guard_fault, iterated_fault, may_be_value}
+pub use Rattle.rhai_grammar.specs.Constructs.{do_end, guard_expected, guard_fault, iterated_fault, may_be_value}
 pub use Rattle.rhai_grammar.specs.Constructs.{may_stand, no_assignment}
 pub use Rattle.rhai_grammar.specs.Contexts.{Context, Live, allows_looping, below_global, full, may_raise}
 pub use Rattle.rhai_grammar.specs.Contexts.{has_single_blocks, in_block, in_case, is_global, is_in_loop, level_up}
 pub use Rattle.rhai_grammar.specs.Contexts.{loop_body}
 pub use Rattle.rhai_grammar.specs.Cursors.{Cursor}
 unfoldable pub use Rattle.rhai_grammar.specs.Cursors.{left}
-pub use Rattle.rhai_grammar.specs.Definitions.{catch_live, define_at}
-pub use Rattle.rhai_grammar.specs.Definitions.{defined_as, export_at, exported, imported, is_in_block, loop_live}
-pub use Rattle.rhai_grammar.specs.Definitions.{reused}
+pub use Rattle.rhai_grammar.specs.Definitions.{catch_live, define_at, defined_as, export_at, exported, imported}
+pub use Rattle.rhai_grammar.specs.Definitions.{is_in_block, loop_live, reused}
 pub use Rattle.rhai_grammar.specs.Delivered.{Ends, Item, Mode, Point, Taken, Then, Tokens, adding, apart, ask}
 pub use Rattle.rhai_grammar.specs.Delivered.{capturing, code, is_end, is_memory, item, later, next_at, past, text}
 pub use Rattle.rhai_grammar.specs.Delivered.{with_captured}
@@ -32,9 +30,8 @@ pub use Rattle.rhai_grammar.specs.Demands.{Adds, Ahead, Apart, Blames, Captures,
 pub use Rattle.rhai_grammar.specs.Demands.{Next, NoFault, Nothing, Otherwise, Shape, Test, TestIn, Tok, Uses, Verdict}
 pub use Rattle.rhai_grammar.specs.Demands.{Wrong, verdict, ◌▸◌}
 pub use Rattle.rhai_grammar.specs.DueTokens.{is_due, not_due}
-pub use Rattle.rhai_grammar.specs.Functions.{duplicate_of, ended_function, in_function, is_new, is_type}
-pub use Rattle.rhai_grammar.specs.Functions.{may_begin, no_function_name}
-pub use Rattle.rhai_grammar.specs.Functions.{parameter_role, parameters_live}
+pub use Rattle.rhai_grammar.specs.Functions.{duplicate_of, ended_function, in_function, is_new, is_type, may_begin}
+pub use Rattle.rhai_grammar.specs.Functions.{no_function_name, parameter_role, parameters_live}
 unfoldable pub use Rattle.rhai_grammar.specs.Functions.{names_function}
 pub use Rattle.rhai_grammar.specs.Imports.{is_among}
 unfoldable pub use Rattle.rhai_grammar.specs.Imports.{module_number}
@@ -57,11 +54,8 @@ unfoldable pub use Rattle.rhai_grammar.specs.Settings.{one_more}
 pub use Rattle.rhai_grammar.specs.Shapes.{node_shape, nodes_shape}
 pub use Rattle.rhai_grammar.specs.Signs.{affected, effect, malformed, plain_sign, sign_holds, signed}
 unfoldable pub use Rattle.rhai_grammar.specs.Slots.{number}
-pub use Rattle.rhai_grammar.specs.Spots.{LinkSpot}
-pub use Rattle.rhai_grammar.specs.Spots.{spot_after_bracket}
-pub use Rattle.rhai_grammar.specs.Spots.{spot_after_dot, spot_after_operand}
-pub use Rattle.rhai_grammar.specs.Starts.{begins, may_be_closure}
-pub use Rattle.rhai_grammar.specs.Starts.{operand_start, role_after, starts}
+pub use Rattle.rhai_grammar.specs.Spots.{LinkSpot, spot_after_bracket, spot_after_dot, spot_after_operand}
+pub use Rattle.rhai_grammar.specs.Starts.{begins, may_be_closure, operand_start, role_after, starts}
 pub use Rattle.rhai_grammar.specs.Statements.{defines, ends_itself, is_comment, no_variable}
 pub use Rattle.rhai_grammar.specs.Statements.{statement_start, token_after_statement}
 pub use Rattle.rhai_grammar.specs.Strengths.{Follower, Operator, Other, Unknown, follower_of, is_operator, is_right}
@@ -73,12 +67,8 @@ pub use Rattle.rhai_grammar.specs.Targets.{is_assignment, is_constant_use, is_eq
 pub use Rattle.rhai_grammar.specs.TreeNumbers.{AllWellNumbered, WellNumbered, WellNumberedBlock, WellNumberedFunction}
 pub use Rattle.rhai_grammar.specs.TreeNumbers.{WellNumberedLibrary, WellNumberedStatement, WellNumberedStatements}
 pub use Rattle.rhai_grammar.specs.TreeNumbers.{names_in, slots_of}
-pub use Rattle.rhai_grammar.specs.Trees.{bracket_link}
-pub use Rattle.rhai_grammar.specs.Trees.{call_tree, catch_node, caught_name}
-pub use Rattle.rhai_grammar.specs.Trees.{definition_tree, export_tree}
-pub use Rattle.rhai_grammar.specs.Trees.{import_tree, is_variable}
-pub use Rattle.rhai_grammar.specs.Trees.{member_link, method_tree, name_tree}
-pub use Rattle.rhai_grammar.specs.Trees.{node_count}
+pub use Rattle.rhai_grammar.specs.Trees.{bracket_link, call_tree, catch_node, caught_name, definition_tree, export_tree}
+pub use Rattle.rhai_grammar.specs.Trees.{import_tree, is_variable, member_link, method_tree, name_tree, node_count}
 pub use Rattle.rhai_grammar.specs.Trees.{variable_of, with_kept}
 pub use Rattle.rhai_grammar.specs.Uses.{Use, names_of, noted}
 pub use Rattle.rhai_grammar.specs.Events.{HoldsFirst, is_free}

@@ -26,15 +26,13 @@ use Rattle.rhai_grammar.specs.Views as view
 --     arguments = "()" | "(" [ list(expression) ] ")"
 abbrev pub arguments_by : Context → Live → Position → (bang : Bool) → Calling → Production (Bool × Nodes)
 arguments_by context live name bang calls_by.Pair = any λ _ at. give (bang, no_nodes)
-arguments_by context live name bang calls_by.List = any λ _ at.
-    part_in (goal.Arguments name) context live λ ns.
+arguments_by context live name bang calls_by.List = any λ _ at. part_in (goal.Arguments name) context live λ ns.
     give (bang, ns)
 arguments_by context live name bang _ = never (missing (codes "("))
 
 -- what calls a name: arguments, or a `!` and arguments
 abbrev pub called_by : Context → Live → Position → Bool → Calling → Production (Bool × Nodes)
-called_by context live name qualified calls_by.Bang = any λ _ at.
-    by_next view.Calls λ v.
+called_by context live name qualified calls_by.Bang = any λ _ at. by_next view.Calls λ v.
     unless qualified (bang_fault (is_list v) at) (arguments_by context live name true v)
 called_by context live name qualified v = arguments_by context live name false v
 
@@ -81,8 +79,7 @@ index_of context live indexed = part_in goal.Expression context live (index_on i
 
 -- a member after a dot, one level deeper, and the links after it
 abbrev pub dotted_by : Live → LinkSpot → Lexeme → Position → MemberRole → Production (List Link)
-dotted_by live spot token at AMember = raise spot.settings at λ deeper.
-    part_in goal.Member deeper live λ x.
+dotted_by live spot token at AMember = raise spot.settings at λ deeper. part_in goal.Member deeper live λ x.
     part (goal.Links live (spot_after_dot spot (member_link token at x))) give
 dotted_by live spot token at (NoMember why) = never λ m. why
 
@@ -90,8 +87,7 @@ dotted_by live spot token at (NoMember why) = never λ m. why
 -- links are tested
 --     link = ( "[" | "?[" ) expression "]" | ( "." | "?." ) ( NAME [ arguments ] | WORD arguments )
 abbrev pub links_by : Live → LinkSpot → Linking → Production (List Link)
-links_by live spot link.Bracket = any λ token at. raise spot.brackets at λ deeper.
-    raise deeper at λ inside.
+links_by live spot link.Bracket = any λ token at. raise spot.brackets at λ deeper. raise deeper at λ inside.
     part_in (goal.Index spot.indexed) inside live λ x.
     part (goal.Links live (spot_after_bracket spot (bracket_link token at x))) give
 links_by live spot link.Dot = any λ token at. by_next view.MemberAt (dotted_by live spot token at)

@@ -35,8 +35,7 @@ block_end at fs = due_at due_token.RightBrace λ end. give (braces fs at end)
 abbrev pub inside_by : Context → Live → Bool → Production node.Statements
 inside_by context live true = part_in goal.ExprStatement context live λ f. give (one_statement f no_statements)
 inside_by context live false =
-    part_in (goal.Statements Brace no_statements) (below_global context) (in_block live) λ fs.
-    give fs.0
+    part_in (goal.Statements Brace no_statements) (below_global context) (in_block live) λ fs. give fs.0
 
 -- what is in a block, and its `}`
 --     block = "{" statements "}"
@@ -68,15 +67,14 @@ iterated context live = no_next (is_due due_token.LeftBrace) (λ _. guard_expect
 abbrev pub conditional : Context → Live → Position → Production node.Statement
 conditional context live at = part_in goal.Guard context live λ x.
     part_in (goal.Braced at) context live λ b.
-    part_in (goal.Branch at) context live λ e.
-    give (if_statement x b e at)
+    part_in (goal.Branch at) context live λ e. give (if_statement x b e at)
 
 -- after `else` another `if`, one level deeper, or a block; or nothing
 abbrev pub branch : Context → Live → Position → Production node.Block
 branch context live at = optional due_token.Else
     (λ _. optional due_token.If
-        (λ pos. raise context at λ deeper. part_in (goal.Conditional pos) deeper live λ f. give (made_block f))
-        (part_in (goal.Braced at) context live give))
+    (λ pos. raise context at λ deeper. part_in (goal.Conditional pos) deeper live λ f. give (made_block f))
+    (part_in (goal.Braced at) context live give))
     (give no_block)
 
 -- `catch`, and its variable in parentheses, if it has one
@@ -93,8 +91,8 @@ do_end_by (Some negated) = any λ _ at. give negated
 abbrev pub loop_names : Production (Text × Option Text)
 loop_names = optional due_token.LeftParen
     (λ _. name λ n p. due due_token.Comma ▸ name λ m pos.
-        unless (same_text n m) (refusal (cause.DuplicatedVariable m) pos)
-        ▸ due due_token.RightParen ▸ due due_token.In ▸ give (n, Some m))
+    unless (same_text n m) (refusal (cause.DuplicatedVariable m) pos)
+    ▸ due due_token.RightParen ▸ due due_token.In ▸ give (n, Some m))
     (name λ n at. due due_token.In ▸ give (n, None))
 
 -- a construct after its first token, by its kind
@@ -111,14 +109,12 @@ construct context live at kind.If = part_in (goal.Conditional at) context live g
 construct context live at kind.Switch = part_in goal.Expression context live λ x. due due_token.LeftBrace
     ▸ part_in (goal.Arms nothing_collected) context live λ all. give (switch_tree x all at)
 construct context live at kind.While = part_in goal.Guard context live λ x.
-    part_in (goal.Braced at) (loop_body context) live λ b.
-    give (while_statement x b at)
+    part_in (goal.Braced at) (loop_body context) live λ b. give (while_statement x b at)
 construct context live at kind.Loop = part_in (goal.Braced at) (loop_body context) live λ b.
     give (while_statement (unit nowhere) b at)
 construct context live at kind.Do = part_in (goal.Braced at) (loop_body context) live λ b.
     part goal.DoEnd λ negated.
-    part_in goal.Guard context live λ x.
-    give (do_statement x b negated at)
+    part_in goal.Guard context live λ x. give (do_statement x b negated at)
 construct context live at kind.For = part goal.LoopNames λ names.
     part_in goal.Iterated context live λ x.
     part_in (goal.Braced at) (loop_body context) (loop_live names.0 names.1 live) λ b.

@@ -71,14 +71,13 @@ parameter_by parts function before place.Nothing = never (no_parameter parts)
 abbrev pub function_body : Context → List Comment → Position → Bool → Option Text × Text → List Text → Production Ended
 function_body context comments at is_private head names = optional due_token.LeftBrace
     (λ opening. raise context at λ deeper. part_in (goal.Block opening) deeper (parameters_live names) λ b.
-        give (ended_function comments is_private head.0 head.1 names b))
+    give (ended_function comments is_private head.0 head.1 names b))
     (never (no_body head.1))
 
 -- the name of a function, its parameters, and its body
 abbrev pub function : Context → List Comment → Position → Bool → Production Ended
 function context comments at is_private = part goal.FunctionHead λ head.
-    part (goal.ParameterList head.1) λ names.
-    function_body context comments at is_private head names
+    part (goal.ParameterList head.1) λ names. function_body context comments at is_private head names
 
 -- one more function or closure, if that is allowed
 abbrev pub begins : {A : Type 0} → Context → Position → Production A → Production A

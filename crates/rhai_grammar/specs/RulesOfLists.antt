@@ -12,8 +12,8 @@ use Rattle.rhai_grammar.specs.Causes.{refusal}
 use Rattle.rhai_grammar.specs.declared.list.AfterPart.{AfterPart}
 use Rattle.rhai_grammar.specs.declared.list.CommaList.{CommaList}
 use Rattle.rhai_grammar.specs.declared.role.ItemRole.{ItemRole}
-use Rattle.rhai_grammar.specs.Productions.{Production, by_next, due, give, if_next, name, never, no_next, part_in, raise}
-use Rattle.rhai_grammar.specs.Productions.{any, unless, ◌▸◌}
+use Rattle.rhai_grammar.specs.Productions.{Production, by_next, due, give, if_next, name, never, no_next, part_in}
+use Rattle.rhai_grammar.specs.Productions.{raise, any, unless, ◌▸◌}
 use Rattle.rhai_grammar.specs.Causes as cause
 use Rattle.rhai_grammar.specs.declared.due.DueToken.TheVariants as due_token
 use Rattle.rhai_grammar.specs.declared.list.AfterPart.TheVariants as after
@@ -79,5 +79,4 @@ field_next context live opening fields = listed_by lists.Map fields λ all.
 abbrev pub field_by : Context → Live → Position → Properties → Option (Text × Position) → Production Properties
 field_by context live opening before None = give before
 field_by context live opening before (Some key) = raise context opening λ deeper.
-    part_in goal.Expression deeper live λ x.
-    field_next context live opening (with_property before key.0 key.1 x)
+    part_in goal.Expression deeper live λ x. field_next context live opening (with_property before key.0 key.1 x)

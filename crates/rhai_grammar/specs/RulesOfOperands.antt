@@ -34,7 +34,7 @@ use Rattle.rhai_grammar.specs.Goals as goal
 abbrev pub word_of : Context → Text → Position → Production Node
 word_of context word at = if_next (λ token. may_be_called word && calls token) (give (variable_of None word at))
     (if is_this word then must (is_in_function context.settings)
-        (refusal (cause.BadInput (cause.ImproperSymbol word)) at) ▸ give (this_node at)
+    (refusal (cause.BadInput (cause.ImproperSymbol word)) at) ▸ give (this_node at)
     else stop (refusal (cause.Reserved word) at))
 
 -- After a name: it is used, unless the next token calls it or makes it part of a path.
@@ -56,17 +56,14 @@ primary_by context live begin.Word = any λ token at. word_of context (text_of t
 primary_by context live begin.Group = any λ _ at. raise context at λ deeper.
     part_in goal.Expression deeper live λ x. due due_token.RightParen ▸ give x
 primary_by context live begin.Array = any λ _ at. raise context at λ deeper.
-    part_in (goal.Elements at no_nodes) deeper live λ ns.
-    give (array ns at)
+    part_in (goal.Elements at no_nodes) deeper live λ ns. give (array ns at)
 primary_by context live begin.Map = any λ _ at. raise context at λ deeper.
-    part_in (goal.Fields at no_properties) deeper live λ ps.
-    give (object_map ps at)
+    part_in (goal.Fields at no_properties) deeper live λ ps. give (object_map ps at)
 primary_by context live begin.Interpolated = any λ token at. raise context at λ deeper.
-    part_in (goal.Segments at (added_text no_nodes (text_of token) at)) deeper live λ ns.
-    give (interpolated ns at)
+    part_in (goal.Segments at (added_text no_nodes (text_of token) at)) deeper live λ ns. give (interpolated ns at)
 primary_by context live (begin.Construct kind) = if may_be_value context kind
     then any (λ _ at. raise context at λ deeper. raise deeper at λ inside.
-        part_in (goal.Construct at kind) inside live λ f. give (block_value (made_block f)))
+    part_in (goal.Construct at kind) inside live λ f. give (block_value (made_block f)))
     else never no_operand
 primary_by context live (begin.Closure by) = if may_be_closure context by
     then any (λ _ at. part_in (goal.Closure at by) context live give)
@@ -81,8 +78,7 @@ sign_on token at x = must (sign_holds token x) (malformed at x) ▸ give (signed
 -- What follows a primary: a call, links, or none of these. That its module is known is tested after the last link.
 abbrev pub operand_ends : Context → Live → Node → Production Node
 operand_ends context live x = part_in (goal.Postfix x) context live λ y.
-    part (goal.Links live (spot_after_operand context y)) λ ls.
-    tested (chained y ls) (module_fault context live y)
+    part (goal.Links live (spot_after_operand context y)) λ ls. tested (chained y ls) (module_fault context live y)
 
 -- a sign and its operand, one level deeper; or a primary with what follows it
 --     operand = { sign } ( ZERO | primary { "::" NAME } [ [ "!" ] arguments ] { link } )
@@ -135,8 +131,7 @@ binary_of context live at parent lhs (Some op) =
 -- runs of operators (`Runs`): the laws `expressions_are_runs` and `runs_are_expressions` say it in both directions.
 --     expression = operand { binary right }
 abbrev pub expression_of : Context → Live → Production Node
-expression_of context live = at_next λ at. raise context at λ deeper.
-    part_in goal.Operand deeper live λ x.
+expression_of context live = at_next λ at. raise context at λ deeper. part_in goal.Operand deeper live λ x.
     part_in (goal.BinaryOp (position_of x) 1 x) deeper live give
 
 -- an expression, and then the end mark
@@ -154,7 +149,6 @@ segments_on context live start all last =
 --     string = TEXT block { TEXT block } STRING
 abbrev pub segments_of : Context → Live → Position → Nodes → Production Nodes
 segments_of context live start before = part goal.BlockStart λ opening.
-    raise context start λ deeper.
-    part_in goal.Inside deeper live λ fs.
+    raise context start λ deeper. part_in goal.Inside deeper live λ fs.
     part goal.TextAfter λ t.
     segments_on context live start (added_text (with_node before (block_value (braces fs opening t.0))) t.1 t.3) t.2

@@ -19,8 +19,8 @@ use Rattle.rhai_grammar.specs.declared.role.AfterStatement.{AfterStatement}
 use Rattle.rhai_grammar.specs.declared.role.Closing.{Closing}
 use Rattle.rhai_grammar.specs.declared.role.StatementRole.{StatementRole}
 use Rattle.rhai_grammar.specs.declared.role.StatementStart.{StatementStart}
-use Rattle.rhai_grammar.specs.Productions.{Production, by_next, due_at, give, at_next, if_next, must, name, never, optional}
-use Rattle.rhai_grammar.specs.Productions.{part, part_in, raise, stop, tested, any, ◌▸◌}
+use Rattle.rhai_grammar.specs.Productions.{Production, by_next, due_at, give, at_next, if_next, must, name, never}
+use Rattle.rhai_grammar.specs.Productions.{optional, part, part_in, raise, stop, tested, any, ◌▸◌}
 use Rattle.rhai_grammar.specs.Views.{EndIn}
 use Rattle.rhai_lower.specs.Nodes as node
 use Rattle.rhai_grammar.specs.Causes as cause
@@ -35,7 +35,7 @@ use Rattle.rhai_grammar.specs.Views as view
 abbrev pub var_name : Context → Live → Production (Text × Position)
 var_name context live = if_next is_name
     (any λ token at. must (may_define context (text_of token) live) (refusal (cause.VariableExists (text_of token)) at)
-        ▸ give (text_of token, at))
+    ▸ give (text_of token, at))
     (never no_variable)
 
 -- `=` and a value, one level deeper; or nothing, for unit
@@ -63,7 +63,7 @@ jump_of context live at = if_next (starts context)
 abbrev pub evaluated : Context → Live → Production node.Statement
 evaluated context live = part_in goal.Expression context live λ x. if_next is_assignment
     (any λ token at. part_in goal.Expression context live λ y.
-        tested (assignment (update_of token) x y at) (target_fault (is_constant_use live.slots x) token at x))
+    tested (assignment (update_of token) x y at) (target_fault (is_constant_use live.slots x) token at x))
     (give (expression x))
 
 -- `as` and a name, or nothing
@@ -74,8 +74,7 @@ alias = optional due_token.As (λ _. name λ n p. give (Some n)) (give None)
 --     import = "import" expression [ "as" NAME ]
 abbrev pub import_of : Context → Live → Position → Production (node.Statement × Live)
 import_of context live at = part_in goal.Expression context live λ x.
-    part goal.Alias λ other.
-    give (import_tree x other at, imported other live)
+    part goal.Alias λ other. give (import_tree x other at, imported other live)
 
 -- a definition that is exported, one level deeper; or a name that is, with another name for it, or with the empty one
 --     export = "export" ( definition | NAME [ "as" NAME ] )
@@ -117,19 +116,15 @@ loops context at p = must (is_in_loop context) (refusal cause.LoopBreak at) p
 --     plain = assignment | do | definition | jump | import | export
 abbrev pub statement_by : Context → Live → StatementStart → Production (node.Statement × Live)
 statement_by context live start.Empty = any λ _ at. give (noop at, live)
-statement_by context live (start.Construct kind) = any λ _ at. raise context at λ deeper.
-    raise deeper at λ inside.
-    part_in (goal.Construct at kind) inside live λ f.
-    give (f, live)
+statement_by context live (start.Construct kind) = any λ _ at. raise context at λ deeper. raise deeper at λ inside.
+    part_in (goal.Construct at kind) inside live λ f. give (f, live)
 statement_by context live start.Let = any λ _ at. raise context at λ deeper.
     part_in (goal.Definition at false false) deeper live give
 statement_by context live start.Const = any λ _ at. raise context at λ deeper.
     part_in (goal.Definition at true false) deeper live give
-statement_by context live start.Return = any λ _ at.
-    part_in (goal.Jump at) context live λ x.
+statement_by context live start.Return = any λ _ at. part_in (goal.Jump at) context live λ x.
     give (return_statement x false at, live)
-statement_by context live start.Throw = any λ _ at.
-    part_in (goal.Jump at) context live λ x.
+statement_by context live start.Throw = any λ _ at. part_in (goal.Jump at) context live λ x.
     give (return_statement x true at, live)
 statement_by context live start.Break = any λ _ at. loops context at
     ▸ part_in (goal.Jump at) context live λ x. give (break_loop x true at, live)
@@ -142,8 +137,7 @@ statement_by context live start.Function = any λ _ at. fn_of context live [] at
 statement_by context live start.Private = any λ _ at. private_of context live [] at
 statement_by context live start.Comment = any λ token at. documented context live (comment_of token at)
 statement_by context live start.Expression = at_next λ at. raise context at λ deeper.
-    part_in goal.ExprStatement deeper live λ f.
-    give (f, live)
+    part_in goal.ExprStatement deeper live λ f. give (f, live)
 
 -- After a statement that needs a semicolon: a `;` and more statements, or the end of the list.
 abbrev pub separated : Closing → Context → Live → node.Statements → AfterStatement → Production (node.Statements × Live)

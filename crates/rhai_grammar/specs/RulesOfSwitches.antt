@@ -79,8 +79,7 @@ default_arm context live default = no_next (is_due due_token.If) (λ _. cause.Wr
 abbrev pub arms_by : Context → Live → Collected → ArmRole → Production Collected
 arms_by context live before arm.Case = part_in (goal.Arm before) context live λ a.
     part_in (goal.Arms (with_arm_collected before a.0 a.1 a.2)) context live give
-arms_by context live before arm.Default = any λ _ at.
-    part_in (goal.DefaultArm at) context live λ x.
+arms_by context live before arm.Default = any λ _ at. part_in (goal.DefaultArm at) context live λ x.
     give (with_default_collected before x)
 arms_by context live before arm.Close = any λ _ at. give before
 arms_by context live before arm.Nothing = never (missing (codes "}"))

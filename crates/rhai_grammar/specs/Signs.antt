@@ -1,6 +1,5 @@
 -- Signs before an operand: `-`, `+` and `!`.
-use Rattle.std.specs.Prelude.{◌≡◌, ℤ, pos, negsuc, neg_ℤ, Bool, true, false, [], ◌++◌, ◌^◌, ◌-◌, Some, None}
-use Rattle.std.specs.Prelude.{Result, Ok}
+use Rattle.std.specs.Prelude.{◌≡◌, ℤ, pos, negsuc, neg_ℤ, Bool, true, false, [], ◌++◌, ◌^◌, ◌-◌, Some, None, Result, Ok}
 use Rattle.std.specs.Prelude.{Err, not, if◌then◌else◌, codes, refl}
 use Rattle.std.specs.Fmt.{signed_decimal}
 use Rattle.std.specs.Ordering.{int_eq}

@@ -1,12 +1,10 @@
 -- Laws of names and slots: uses, definitions, and ends of scopes. They say which slot a use refers to, what a
 -- definition does, and where a scope ends. Users rely on them.
-use Rattle.std.specs.Prelude.{◌≡◌, ℕ, ◌+◌, ◌-◌, ◌≤◌, ◌↔◌, Bool, true, false, List, Some, None}
-use Rattle.std.specs.Prelude.{length}
+use Rattle.std.specs.Prelude.{◌≡◌, ℕ, ◌+◌, ◌-◌, ◌≤◌, ◌↔◌, Bool, true, false, List, Some, None, length}
 use Rattle.rhai_lower.specs.Texts.{Text}
 use Rattle.rhai_lower.specs.Names.{is_identifier}
 use Rattle.rhai_lower.specs.Slots.{SlotValue, fresh_slot}
-use Rattle.rhai_grammar.specs.Definitions.{define, is_exported}
-use Rattle.rhai_grammar.specs.Definitions.{reused}
+use Rattle.rhai_grammar.specs.Definitions.{define, is_exported, reused}
 use Rattle.rhai_grammar.specs.Slots.{is_barrier, number, slot_from_latest}
 
 -- The slot with this number is the latest of the name, in the block, and not exported.

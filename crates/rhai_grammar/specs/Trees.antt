@@ -1,16 +1,11 @@
 -- Nodes that productions give: names, calls, links and definitions.
-use Rattle.std.specs.Prelude.{ℕ, ◌+◌, Bool, true, false, Option, Some, None, List, []}
-use Rattle.std.specs.Prelude.{unwrap_or}
-use Rattle.std.specs.Prelude.{if◌then◌else◌}
+use Rattle.std.specs.Prelude.{ℕ, ◌+◌, Bool, true, false, Option, Some, None, List, [], unwrap_or, if◌then◌else◌}
 use Rattle.rhai_lower.specs.Texts.{Text}
 use Rattle.rhai_lower.specs.Positions.{nowhere}
 use Rattle.rhai_lower.specs.Slots.{SlotValue}
 use Rattle.rhai_lower.specs.Lexemes.{Lexeme}
-use Rattle.rhai_lower.specs.Nodes.{Called, Named, Node, Nodes, unit}
-use Rattle.rhai_lower.specs.Nodes.{variable}
-use Rattle.rhai_lower.specs.Nodes.{call, method_call, no_nodes, one_node}
-use Rattle.rhai_lower.specs.Nodes.{position_of, noop}
-use Rattle.rhai_lower.specs.Nodes.{braces, no_statements, var_statement}
+use Rattle.rhai_lower.specs.Nodes.{Called, Named, Node, Nodes, unit, variable, call, method_call, no_nodes, one_node}
+use Rattle.rhai_lower.specs.Nodes.{position_of, noop, braces, no_statements, var_statement}
 use Rattle.rhai_lower.specs.Nodes as node
 use Rattle.rhai_lower.specs.declared.position.Position.{Position}
 use Rattle.rhai_grammar.specs.Beginnings.{is_negated}

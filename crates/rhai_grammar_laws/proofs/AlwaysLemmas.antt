@@ -1,6 +1,6 @@
 -- What is shown of all that a production can give holds of the tree of each form.
 use Rattle.rhai_grammar_reading.specs.Reading.{Goal, Val}
-use Rattle.rhai_grammar.specs.Productions.{Production, View, SeenBy, view}
+use Rattle.rhai_grammar.specs.Productions.{Production, view}
 use Rattle.rhai_grammar.specs.Productions as S
 use Rattle.rhai_grammar.specs.Forms as F
 use Rattle.rhai_grammar.specs.Forms.{given, of_kind, any, if_so, if_not, by_next, at_next, must, checked, knows, adds, uses}

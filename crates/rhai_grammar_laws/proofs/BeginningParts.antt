@@ -7,10 +7,10 @@ use Rattle.rhai_lower.specs.Positions.{place}
 use Rattle.rhai_lower.specs.declared.token.Token.{Token}
 use Rattle.rhai_lower.specs.declared.token.Token.TheVariants as token
 use Rattle.rhai_grammar.specs.Prelude.{Context, Live, Node, Text, Point, Position, Item, item, code, next_at, past}
-use Rattle.rhai_grammar.specs.Prelude.{Taken}
-use Rattle.rhai_grammar.specs.Prelude.{beginning, value_of, level_up, may_raise, is_memory, is_variable, module_fault}
-use Rattle.rhai_grammar.specs.Prelude.{Tokens, linking, follower_of, Other, spot_after_operand, qualifies, calls}
-use Rattle.rhai_grammar.specs.Prelude.{Nothing}
+use Rattle.rhai_grammar.specs.Prelude.{Taken, beginning, value_of, level_up, may_raise, is_memory, is_variable}
+use Rattle.rhai_grammar.specs.Prelude.{module_fault, Tokens, linking, follower_of, Other, spot_after_operand, qualifies}
+use Rattle.rhai_grammar.specs.Prelude.{calls, Nothing, Operator, operand_start, role_after, boolean_holds}
+use Rattle.rhai_grammar.specs.Prelude.{operator_tree}
 use Rattle.rhai_grammar.specs.Delivered as M
 use Rattle.rhai_grammar.specs.Signs.{sign_holds, signed as signed_tree}
 use Rattle.rhai_grammar_laws.specs.StartLaws.{is_added, IsBegun}
@@ -19,10 +19,8 @@ use Rattle.rhai_grammar.specs.declared.role.Beginning.{Beginning}
 use Rattle.rhai_grammar.specs.declared.role.Beginning.TheVariants as begin
 use Rattle.rhai_grammar.specs.declared.role.Linking.TheVariants as link
 use Rattle.rhai_grammar.specs.declared.role.OperandStart.TheVariants as first
-use Rattle.rhai_grammar.specs.Prelude.{Operator, operand_start, role_after, boolean_holds, operator_tree}
 use Rattle.rhai_grammar_reading.specs.Reading as R
 use Rattle.rhai_grammar.specs.Rules as P
-use Rattle.rhai_grammar.specs.Rules.{production}
 use Rattle.rhai_grammar_laws.proofs.Fits as F
 use Rattle.rhai_grammar_laws.proofs.Fits.{Comes, Fit, FitIn, formed, given}
 

@@ -5,19 +5,16 @@ use Rattle.rhai_lower.specs.Lexemes.{String}
 use Rattle.rhai_lower.specs.Nodes as node
 use Rattle.rhai_lower.specs.declared.token.Token.{Token}
 use Rattle.rhai_lower.specs.declared.token.Token.TheVariants as token
-use Rattle.rhai_grammar.specs.Prelude.{Context, Live, Text, Point, code, past, Taken}
-use Rattle.rhai_grammar.specs.Prelude.{beginning, value_of, level_up, may_raise}
-use Rattle.rhai_grammar.specs.Prelude.{may_be_closure, may_begin}
-use Rattle.rhai_grammar.specs.Prelude.{has_single_blocks, may_be_value, made_block, starts}
+use Rattle.rhai_grammar.specs.Prelude.{Context, Live, Text, Point, code, past, Taken, beginning, value_of, level_up}
+use Rattle.rhai_grammar.specs.Prelude.{may_raise, may_be_closure, may_begin, has_single_blocks, may_be_value}
+use Rattle.rhai_grammar.specs.Prelude.{made_block, starts, loop_body}
 use Rattle.rhai_grammar_laws.specs.StartLaws.{is_added, StartsOfExpressions}
 use Rattle.rhai_grammar.specs.declared.role.Beginning.TheVariants as begin
 use Rattle.rhai_grammar.specs.declared.role.Construct.{Construct as Kind}
 use Rattle.rhai_grammar.specs.declared.role.Construct.TheVariants as kind
 use Rattle.rhai_grammar.specs.declared.role.Bars.TheVariants as bars
-use Rattle.rhai_grammar.specs.Prelude.{loop_body}
 use Rattle.rhai_grammar_reading.specs.Reading as R
 use Rattle.rhai_grammar.specs.Rules as P
-use Rattle.rhai_grammar.specs.Rules.{production}
 use Rattle.rhai_grammar_laws.proofs.StartLemmas.{begins_so}
 use Rattle.rhai_grammar_laws.proofs.Fits as F
 use Rattle.rhai_grammar_laws.proofs.Fits.{Comes, Fit, FitIn, formed, given}
@@ -257,10 +254,9 @@ any c w (Character n) room h = value c w (Character n) refl refl refl
 any c w (String a) room h = value c w (String a) refl refl refl
 any c w (Interpolated a) room h = interpolated c w a (has_single_blocks c) refl
 any c w (Name a) room h = name c w a
-any c w (Reserved a) room h = inl refl
-any c w (Faulty f) room h = inl refl
 any c w (Comment a) room h = absurd cc
 any c w (Sign t) room h = any_sign c w t room h
+any c w _ room h = inl refl
 
 added : (c : Context) (l : Lexeme) → is_added l ≡ true → starts c l ≡ true
 added c (Reserved a) e = refl

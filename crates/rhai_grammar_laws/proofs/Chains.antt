@@ -4,13 +4,12 @@ use Rattle.rhai_grammar.specs.Prelude.{Context, Link, Live, Node, chained, node_
 use Rattle.rhai_grammar.specs.Events.{spelling}
 use Rattle.rhai_grammar.proofs.ShapeSteps.{link_shapes}
 use Rattle.rhai_grammar_reading.specs.Reading as R
-use Rattle.rhai_grammar_reading.specs.Reading.{Goal, Val}
 use Rattle.rhai_grammar.specs.Rules.{production}
 use Rattle.rhai_grammar.specs.Forms as F
 use Rattle.rhai_grammar_laws.specs.ChainForms.{AllAlike, ChainsAreJoined, HasTwoMore, Piece, WrittenChain}
 use Rattle.rhai_grammar_laws.specs.Shaped.{Alike, lexemes}
 use Rattle.rhai_grammar_laws.proofs.Likeness.{keeps}
-use Rattle.rhai_grammar_laws.proofs.NearGoals.{Equal, Near, indices, members, postfixes, primaries}
+use Rattle.rhai_grammar_laws.proofs.NearGoals.{near, Equal, Near, indices, members, postfixes, primaries}
 use Rattle.rhai_grammar_laws.proofs.ShapesOfTokens.{alike_tokens}
 use Rattle.rhai_grammar_laws.proofs.Shapes.{like}
 use Rattle.rhai_grammar_laws.proofs.TreeShapes.{chained_so}
@@ -35,14 +34,13 @@ links_so c w _ _ _ _ none (member n l at x f ps ls a) same = absurd same
 links_so c w _ _ _ _ (bracket n l at i x f ps ls a) none same = absurd same
 links_so c w _ _ _ _ (member n l at x f ps ls a) none same = absurd same
 links_so c w _ _ _ _ (bracket n l at i x f ps ls a) (member m k pos y e qs ms b) same = absurd (apart f e same.1.0)
-links_so c w _ _ _ _ (member n l at x f ps ls a) (bracket m k pos i y e qs ms b) same =
-    absurd (apart_too f e same.1.0)
+links_so c w _ _ _ _ (member n l at x f ps ls a) (bracket m k pos i y e qs ms b) same = absurd (apart_too f e same.1.0)
 links_so c w _ _ _ _ (bracket n l at i x f ps ls a) (bracket m k pos j y e qs ms b) same =
-    let d : node_shape x ≡ node_shape y = keeps Near Equal production like f _ _ e indices same.1.0 in
+    let d : node_shape x ≡ node_shape y = keeps Near Equal production like f _ _ e (near refl indices) same.1.0 in
     let t : l ≡ k = same.0 in
     let r = links_so c w ps qs ls ms a b same.1.1 in cc
 links_so c w _ _ _ _ (member n l at x f ps ls a) (member m k pos y e qs ms b) same =
-    let d : node_shape x ≡ node_shape y = keeps Near Equal production like f _ _ e members same.1.0 in
+    let d : node_shape x ≡ node_shape y = keeps Near Equal production like f _ _ e (near refl members) same.1.0 in
     let t : l ≡ k = same.0 in
     let r = links_so c w ps qs ls ms a b same.1.1 in cc
 
@@ -51,8 +49,8 @@ chains_so : (c : Context) (w : Live) (x y : WrittenChain) → Rooted c w x → R
     → AllAlike x.written y.written → node_shape (chained x.chain.root x.chain.links)
     ≡ node_shape (chained y.chain.root y.chain.links)
 chains_so c w _ _ (rooted n p y fp fy ps ls a) (rooted m q z fq fz qs ms b) same =
-    let primary = keeps Near Equal production like fp _ q fq primaries same.0 in
-    let root = keeps Near Equal production like fy _ z fz (postfixes primary) same.1.0 in
+    let primary = keeps Near Equal production like fp _ q fq (near refl primaries) same.0 in
+    let root = keeps Near Equal production like fy _ z fz (near refl (postfixes primary)) same.1.0 in
     chained_so y z ls ms root (links_so c w ps qs ls ms a b same.1.1)
 
 pub chains_are_joined : ChainsAreJoined

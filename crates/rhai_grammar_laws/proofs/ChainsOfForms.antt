@@ -10,7 +10,6 @@ use Rattle.rhai_grammar.specs.declared.role.Beginning.TheVariants as begin
 use Rattle.rhai_grammar.specs.declared.role.Beginning.{Beginning}
 use Rattle.rhai_grammar.specs.declared.role.Linking.{Linking}
 use Rattle.rhai_grammar_reading.specs.Reading as R
-use Rattle.rhai_grammar_reading.specs.Reading.{Goal, Val}
 use Rattle.rhai_grammar.specs.Rules as P
 use Rattle.rhai_grammar.specs.Rules.{production}
 use Rattle.rhai_grammar.specs.Forms as F
@@ -56,8 +55,7 @@ AddsTo k = (c : Context) (n m : ℕ) (w : Live) (i : Option Node) (before ls : L
 first_added : (c : Context) (w : Live) (before ls : List Link) (l : Link) (ps qs : List Piece)
     → Adds c w (before ++ l ∷ []) ps ls → ((more : List Link) → Made c w ps more → Made c w qs (l ∷ more))
     → Adds c w before qs ls
-first_added c w before ls l ps qs a make =
-    (l ∷ a.0, a.1 ∙ append_assoc before (l ∷ []) a.0, make a.0 a.2)
+first_added c w before ls l ps qs a make = (l ∷ a.0, a.1 ∙ append_assoc before (l ∷ []) a.0, make a.0 a.2)
 
 dot_adds : (k : ℕ) → AddsTo k → (c : Context) (n m : ℕ) (w : Live) (i : Option Node) (before ls : List Link)
     (l : Lexeme) (at : Position) (v : MemberRole)
@@ -134,8 +132,7 @@ not_operated (F.form (F.part (Some op) g f)) o x h = absurd cc
 pub not_called : {c : Context} {w : Live} {p a : Node} (f : F.Form production (R.In (R.Postfix p) c w) a)
     (o : Option WrittenChain) (x : WrittenChain) → unless_called f o ≡ Some x → (o ≡ Some x) × (a ≡ p)
 not_called (F.form (F.if_not (F.if_not F.given))) o x h = (h, refl)
-not_called (F.form (F.if_not (F.if_so f))) o x h = absurd cc
-not_called (F.form (F.if_so f)) o x h = absurd cc
+not_called _ o x h = absurd cc
 
 alone_is : (c : Context) (n : ℕ) (w : Live) (a : Node) (f : F.Form production (R.In R.Expression (at_level n c) w) a)
     (x : WrittenChain) → chain_alone f ≡ Some x → IsOf c w a x

@@ -129,13 +129,8 @@ links w spot lk.Nothing = λ before. before
 
 table : (g : Goal) → Always LinksRight (LinksRight g) (production g)
 table (R.Links w spot) = λ v. links w spot v
-table (R.In R.Member c w) = λ name at. (
-  λ call u. refl,
-  by_either (λ x. (chain_of x).links ≡ []) (is_name name) _ _ (
-    tt,
-    refl,
-  ) tt,
-)
+table (R.In R.Member c w) =
+    λ name at. (λ call u. refl, by_either (λ x. (chain_of x).links ≡ []) (is_name name) _ _ (tt, refl) tt)
 table g = trivially LinksRight (λ x. Unit {0}) (production g) (λ x. tt)
 
 pub may_end : {c : Context} {w : Live} {x : Node} {ls : List Link}

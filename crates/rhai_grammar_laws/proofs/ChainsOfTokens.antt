@@ -8,7 +8,6 @@ use Rattle.rhai_grammar.specs.declared.filter.ExprFilter.{ExprFilter}
 use Rattle.rhai_grammar.specs.declared.role.Beginning.TheVariants as begin
 use Rattle.rhai_grammar.specs.declared.role.Beginning.{Beginning}
 use Rattle.rhai_grammar_reading.specs.Reading as R
-use Rattle.rhai_grammar_reading.specs.Reading.{Goal, Val}
 use Rattle.rhai_grammar.specs.Rules as P
 use Rattle.rhai_grammar.specs.Rules.{production}
 use Rattle.rhai_grammar.specs.Forms as F
@@ -60,8 +59,7 @@ no_run_tokens (F.form (F.part (Some op) g f)) o x h = absurd cc
 no_call_tokens : {c : Context} {w : Live} {p a : Node} (f : F.Form production (R.In (R.Postfix p) c w) a)
     (o : Option WrittenChain) (x : WrittenChain) → unless_called f o ≡ Some x → spelling production f ≡ []
 no_call_tokens (F.form (F.if_not (F.if_not F.given))) o x h = refl
-no_call_tokens (F.form (F.if_not (F.if_so f))) o x h = absurd cc
-no_call_tokens (F.form (F.if_so f)) o x h = absurd cc
+no_call_tokens _ o x h = absurd cc
 
 alone_tokens : {c : Context} {w : Live} {a : Node} (f : F.Form production (R.In R.Expression c w) a) (x : WrittenChain)
     → chain_alone f ≡ Some x → lexemes (spelling production f) ≡ of_pieces x.written

@@ -8,8 +8,7 @@ use Rattle.std.proofs.lemmas.List.{map-append}
 use Rattle.std.proofs.lemmas.List.Folds.{list_any-append}
 use Rattle.std.specs.Cmp.Lexicographic as L
 use Rattle.rhai_grammar.specs.Prelude.{Text, same_text, Position, SlotValue, Node, captured_nodes, shared_names}
-use Rattle.rhai_grammar.specs.Prelude.{Context}
-use Rattle.rhai_grammar.specs.Prelude.{Live, Point, capturing, with_captured, Met, Nothing, is_among, Ended}
+use Rattle.rhai_grammar.specs.Prelude.{Context, Live, Point, capturing, with_captured, Met, Nothing, is_among, Ended}
 use Rattle.rhai_grammar.specs.Prelude.{Library, is_function, keys_in, with_ended, is_captured, number, Use, names_of}
 use Rattle.rhai_grammar.specs.Prelude.{noted, closure_name, closure_node, ended_closure, made_block, apart, Refusal}
 use Rattle.rhai_lower.specs.Nodes.{Block}
@@ -27,7 +26,7 @@ use Rattle.rhai_grammar.specs.Rules as P
 use Rattle.rhai_grammar.specs.Productions.{Production, adds, give, knows}
 use Rattle.rhai_grammar.specs.Forms as D
 use Rattle.rhai_grammar.specs.Events as F
-use Rattle.rhai_grammar.specs.Events.{Event, ended_in, ends_only}
+use Rattle.rhai_grammar.specs.Events.{ended_in, ends_only}
 use Rattle.rhai_grammar_laws.specs.Numbered as Z
 use Rattle.rhai_grammar_laws.specs.Numbered.{ClosureParts, closure_parts}
 use Rattle.rhai_grammar_laws.proofs.Passing.{leaves_its, passes}

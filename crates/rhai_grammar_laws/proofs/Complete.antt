@@ -9,12 +9,12 @@ use Rattle.rhai_grammar.specs.Goals.{is_counted}
 use Rattle.rhai_grammar_reading.proofs.Reaches as R
 use Rattle.rhai_grammar_reading.proofs.Reaches.{Reaches}
 use Rattle.rhai_grammar_reading.proofs.Looks.{op_at, pos_at, no_other, or_wrong}
-use Rattle.rhai_grammar.specs.Productions.{Production, View, SeenBy, view}
+use Rattle.rhai_grammar.specs.Productions.{Production, view}
 use Rattle.rhai_grammar.specs.Productions as S
 use Rattle.rhai_grammar.specs.Rules.{production}
 use Rattle.rhai_grammar.specs.Forms as F
 use Rattle.rhai_grammar.specs.Forms.{given, of_kind, any, if_so, if_not, by_next, at_next, must, checked, knows, adds, uses}
-use Rattle.rhai_grammar.specs.Forms.{captures, part, literal, in_text, form, any_token}
+use Rattle.rhai_grammar.specs.Forms.{captures, part, literal, in_text, form}
 
 pub or_other : (b : Bool) → (if b then Fine else Otherwise) ≡ Fine → b ≡ true
 or_other true e = refl

@@ -7,9 +7,8 @@ use Rattle.rhai_grammar.specs.Causes.{ExprTooDeep, Refusal, as_literal, refusal}
 use Rattle.rhai_grammar.specs.Delivered.{Item, Mode, Point, adding, apart, capturing, code, next_at, past}
 use Rattle.rhai_grammar.specs.Delivered.{with_captured}
 use Rattle.rhai_grammar.specs.Demands.{Adds, Ahead, Apart, Blames, Captures, Demands, Fine, HasCaptured, Literally, Met}
-use Rattle.rhai_grammar.specs.Demands.{Missed, Next, NoFault, Nothing, Otherwise, Refused, Shape, Test, TestIn, Tok}
-use Rattle.rhai_grammar.specs.Demands.{Uses}
-use Rattle.rhai_grammar.specs.Demands.{Verdict, Wrong, verdict, ◌▸◌}
+use Rattle.rhai_grammar.specs.Demands.{Missed, Next, NoFault, Nothing, Refused, Shape, Test, TestIn, Tok}
+use Rattle.rhai_grammar.specs.Demands.{Uses, Verdict, Wrong, verdict, ◌▸◌}
 use Rattle.rhai_grammar_reading.specs.Reading.{Goal}
 use Rattle.rhai_grammar.specs.Promises.{Unwritten, Written, unwritten, written}
 use Rattle.rhai_grammar_laws.specs.WorkedRows.{Fits, Misses}
@@ -20,8 +19,7 @@ after Nothing s = s
 after (Tok by token others ▸ rest) s = after rest (past by s)
 after (Ahead token others ▸ rest) s = after rest s
 after (Next test ▸ rest) s = after rest s
-after (Uses test captures u ▸ rest) s =
-    after rest (capturing (captures s.library (next_at code s).lexeme) u s)
+after (Uses test captures u ▸ rest) s = after rest (capturing (captures s.library (next_at code s).lexeme) u s)
 after (Test holds why ▸ rest) s = after rest s
 after (NoFault fault ▸ rest) s = after rest s
 after (TestIn holds why ▸ rest) s = after rest s
@@ -77,8 +75,7 @@ fits {g} {f} {s} {t} m e = record { met = subst (λ u. Met (written g f) s u) e 
 abbrev error_of : Verdict → Position → Refusal
 error_of (Wrong why) at = refusal why at
 error_of (Blames why) at = why
-error_of Fine at = refusal ExprTooDeep at
-error_of Otherwise at = refusal ExprTooDeep at
+error_of _ at = refusal ExprTooDeep at
 
 -- the same of a token, by a test of it
 abbrev error_at : (Lexeme → Verdict) → Item → Refusal
@@ -114,8 +111,7 @@ blame (Shape holds ▸ rest) s = blame rest s
 blame (Literally inner ▸ Nothing) s = as_literal (blame inner s)
 blame (Literally inner ▸ (d ▸ rest)) s = blame (d ▸ rest) (after inner s)
 blame (Apart inner number captured ▸ Nothing) s = blame inner (apart s)
-blame (Apart inner number captured ▸ (d ▸ rest)) s =
-    blame (d ▸ rest) (with_captured s.captured (after inner (apart s)))
+blame (Apart inner number captured ▸ (d ▸ rest)) s = blame (d ▸ rest) (with_captured s.captured (after inner (apart s)))
 
 -- what makes the last demand missed, and those before it met
 abbrev pub MissesLast : Demands → Point → Refusal → Mode → Point → Type 0
@@ -156,22 +152,14 @@ MissesLast (Apart inner number captured ▸ (d ▸ rest)) s e m t =
 -- The last demand is missed.
 missed_by : (ds : Demands) (s : Point) (e : Refusal) (m : Mode) (t : Point) → MissesLast ds s e m t → Missed ds s e m t
 missed_by Nothing s e m t k = k
-missed_by (Tok by token others ▸ Nothing) s e m t k = inl k
 missed_by (Tok by token others ▸ (d ▸ rest)) s e m t k = inr (k.0, missed_by (d ▸ rest) (past by s) e m t k.1)
-missed_by (Ahead token others ▸ Nothing) s e m t k = inl k
 missed_by (Ahead token others ▸ (d ▸ rest)) s e m t k = inr (k.0, missed_by (d ▸ rest) s e m t k.1)
-missed_by (Next test ▸ Nothing) s e m t k = inl k
 missed_by (Next test ▸ (d ▸ rest)) s e m t k = inr (k.0, missed_by (d ▸ rest) s e m t k.1)
-missed_by (Uses test captures u ▸ Nothing) s e m t k = inl k
 missed_by (Uses test captures u ▸ (d ▸ rest)) s e m t k = inr (k.0, missed_by (d ▸ rest) _ e m t k.1)
-missed_by (Test holds why ▸ Nothing) s e m t k = inl k
 missed_by (Test holds why ▸ (d ▸ rest)) s e m t k = inr (k.0, missed_by (d ▸ rest) s e m t k.1)
-missed_by (NoFault fault ▸ Nothing) s e m t k = inl k
 missed_by (NoFault fault ▸ (d ▸ rest)) s e m t k = inr (k.0, missed_by (d ▸ rest) s e m t k.1)
-missed_by (TestIn holds why ▸ Nothing) s e m t k = inl k
 missed_by (TestIn holds why ▸ (d ▸ rest)) s e m t k = inr (k.0, missed_by (d ▸ rest) s e m t k.1)
 missed_by (Adds ended ▸ rest) s e m t k = (tt, missed_by rest (adding ended s) e m t k)
-missed_by (Captures holds why captures u ▸ Nothing) s e m t k = inl k
 missed_by (Captures holds why captures u ▸ (d ▸ rest)) s e m t k = inr (k.0, missed_by (d ▸ rest) _ e m t k.1)
 missed_by (Shape holds ▸ rest) s e m t k = (k.0, missed_by rest s e m t k.1)
 missed_by (Literally inner ▸ Nothing) s e m t k = inl (blame inner s, missed_by inner s (blame inner s) m t k.0, k.1)
@@ -180,6 +168,7 @@ missed_by (Literally inner ▸ (d ▸ rest)) s e m t k =
 missed_by (Apart inner number captured ▸ Nothing) s e m t k = inl (missed_by inner (apart s) e m t k)
 missed_by (Apart inner number captured ▸ (d ▸ rest)) s e m t k =
     inr (after inner (apart s), meets inner (apart s) k.0, k.1, missed_by (d ▸ rest) _ e m t k.2)
+missed_by _ s e m t k = inl k
 
 -- An open form of which the last demand is missed, misses it.
 pub misses : {g : Goal} {f : Unwritten g} {s t : Point} {e : Refusal} {m : Mode} → MissesLast (unwritten g f) s e m t

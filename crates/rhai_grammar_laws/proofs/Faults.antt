@@ -20,7 +20,6 @@ use Rattle.rhai_grammar.specs.Prelude.{module_fault, Link, index_refusal, last_f
 use Rattle.rhai_grammar.specs.Prelude.{chain_of, is_at_last, with_case}
 use Rattle.rhai_grammar.specs.Rules as P
 use Rattle.rhai_grammar_laws.specs.Tidiness.{Early}
-use Rattle.rhai_grammar.specs.Rules.{production}
 
 pub early_if : (b : Bool) (x y : Option Refusal) → Early x → Early y → Early (if b then x else y)
 early_if true x y g h = g

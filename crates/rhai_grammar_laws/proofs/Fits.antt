@@ -3,10 +3,8 @@ use Rattle.std.proofs.Common.{◌≡◌, ℕ, Bool, true, false, List, refl, ap,
 use Rattle.rhai_lower.specs.declared.token.Token.TheVariants as token
 use Rattle.rhai_grammar.specs.Prelude.{Lexeme, Sign, Position, Item, item, code, text, Point, Use, Ended, Library}
 use Rattle.rhai_grammar.specs.Prelude.{Demands, Nothing, Met, Refusal, Cause, Verdict, Fine, Wrong, Blames, Otherwise}
-use Rattle.rhai_grammar.specs.Prelude.{verdict}
-use Rattle.rhai_grammar.specs.Prelude.{adding, capturing, closure_count, is_due, is_memory, is_text, next_at, not_due}
-use Rattle.rhai_grammar.specs.Prelude.{past}
-use Rattle.rhai_grammar.specs.Prelude.{with_captured}
+use Rattle.rhai_grammar.specs.Prelude.{verdict, adding, capturing, closure_count, is_due, is_memory, is_text, next_at}
+use Rattle.rhai_grammar.specs.Prelude.{not_due, past, with_captured}
 use Rattle.rhai_grammar.specs.Delivered as M
 use Rattle.rhai_grammar.specs.declared.due.DueToken.TheVariants.{RightBrace}
 use Rattle.rhai_grammar_reading.specs.Reading.{Goal, Val}
@@ -84,10 +82,8 @@ module _ {h : Goal} {x : Val h} {s u : Point} where
         → FitIn h (S.uses v ok e c i k) x s u
     uses {ok = ok} {e = e} is r = record {
       filled = D.uses l at r.filled;
-      met = λ k t q. (
-        n.is,
-        (goes (D.may_use ok e s.library) n (ap (λ b. if b then Fine else Blames e) is), r.met k t q),
-      );
+      met =
+          λ k t q. (n.is, (goes (D.may_use ok e s.library) n (ap (λ b. if b then Fine else Blames e) is), r.met k t q));
     }
 
     pub looks : {k : Position → Production (Val h)} → FitIn h (k at) x s u → FitIn h (S.at_next k) x s u

@@ -18,8 +18,7 @@ use Rattle.rhai_grammar_laws.specs.Laws.{FormsHaveOneTree, FormsNestReaders, IsP
 use Rattle.rhai_grammar.specs.Promises.{Written, written, tree_of, Unwritten, unwritten}
 use Rattle.rhai_grammar_laws.proofs.Complete.{complete}
 use Rattle.rhai_grammar_laws.proofs.Depth.{nests}
-use Rattle.rhai_grammar_laws.proofs.Main.{expression_entry, script_entry, reads_done, reads_fails}
-use Rattle.rhai_grammar_laws.proofs.Main.{sound_goal}
+use Rattle.rhai_grammar_laws.proofs.Main.{expression_entry, script_entry, reads_done, reads_fails, sound_goal}
 
 -- ---- sound and complete
 

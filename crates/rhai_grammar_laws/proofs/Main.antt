@@ -3,7 +3,7 @@ use Rattle.std.proofs.Common.{◌≡◌, ℕ, Bool, true, false, refl, sym, ◌�
 use Rattle.std.specs.Prelude.{Result, Ok, Err, IfErr}
 use Rattle.rhai_grammar.specs.Prelude.{is_memory_cause, Point, is_memory, Context, Live, Met, Missed, Library}
 use Rattle.rhai_grammar.specs.Prelude.{StandsAtLast}
-use Rattle.rhai_grammar.specs.Promises.{Returns}
+use Rattle.rhai_grammar.specs.Promises.{Returns, ReadsWhole, Written, written, tree_of, Unwritten, unwritten}
 use Rattle.rhai_grammar.specs.Causes.{refusal_of, is_for_memory}
 use Rattle.rhai_grammar.specs.declared.error.ParseError.{ParseError}
 use Rattle.rhai_grammar.specs.Demands.{Nothing}
@@ -19,7 +19,6 @@ use Rattle.rhai_grammar_reading.proofs.Entries.{Entry, IsNew, IsOther}
 use Rattle.rhai_grammar_reading.proofs.Paths as W
 use Rattle.rhai_grammar_reading.proofs.Paths.{To, reached}
 use Rattle.rhai_grammar_reading.proofs.Reaches.{reached_end}
-use Rattle.rhai_grammar.specs.Promises.{ReadsWhole, Written, written, tree_of, Unwritten, unwritten}
 use Rattle.rhai_grammar.specs.Forms as D
 use Rattle.rhai_grammar.specs.Rules.{production}
 use Rattle.rhai_grammar_laws.proofs.Sound.{Read, Halts, sound}

@@ -2,7 +2,6 @@
 use Rattle.std.proofs.Common.{◌≡◌, ◌∙◌, Bool, true, false, ◌||◌, List, [], ◌∷◌, ◌++◌, Some, None, refl, sym, ap, ap₂}
 use Rattle.std.proofs.Common.{if◌then◌else◌, append_assoc, append-nil, is_some}
 use Rattle.rhai_lower.specs.Nodes as node
-use Rattle.rhai_lower.specs.Nodes.{Arms, Cases}
 use Rattle.rhai_grammar.specs.Operators as O
 use Rattle.rhai_grammar.specs.Prelude.{Bracket, Chain, Dotted, Lexeme, Link, LinkKind, Node, Nodes, Position}
 use Rattle.rhai_grammar.specs.Prelude.{Properties, SlotValue, Text, added_text, affected, chain_of, chained, is_among}
@@ -132,8 +131,7 @@ linked Dotted m p i b x y = refl
 nested : (x : Node) (ls : List Link) → mentions (nest x ls) ≡ mentions x ++ link_mentions ls
 nested x [] = sym (append-nil (mentions x))
 nested x (l ∷ ls) =
-    linked l.kind l.negated l.at l.item (is_last ls) x (nest l.item ls)
-    ∙ ap (λ ms. mentions x ++ ms) (nested l.item ls)
+    linked l.kind l.negated l.at l.item (is_last ls) x (nest l.item ls) ∙ ap (λ ms. mentions x ++ ms) (nested l.item ls)
 
 abbrev chain_mentions : Chain → List Mention
 chain_mentions c = mentions c.root ++ link_mentions c.links
@@ -181,8 +179,7 @@ items _ n = append-nil (mentions n)
 list : (k : ListKind) (xs : Nodes) (p : Position) → mentions (O.list_tree k xs p) ≡ all_mentions xs
 unfolding mentions
 list lists.And xs p = refl
-list lists.Or xs p = refl
-list lists.Coalesce xs p = refl
+list _ xs p = refl
 
 joined_list : (k : ListKind) (p : Position) (a b : Node) → mentions (O.list_of k p a b) ≡ mentions a ++ mentions b
 joined_list k p a b =

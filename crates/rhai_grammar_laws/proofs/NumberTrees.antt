@@ -5,7 +5,7 @@ use Rattle.std.proofs.lemmas.List.{map-append}
 use Rattle.rhai_lower.specs.Nodes as node
 use Rattle.rhai_grammar.specs.TreeNumbers.{WellNumberedProperties, WellNumberedFunction, IsWellNumberedFunction}
 use Rattle.rhai_grammar.specs.TreeNumbers.{names_after, names_after_all, names_in_handler, IsHandled, has_path}
-use Rattle.rhai_grammar.specs.TreeNumbers.{number_among}
+use Rattle.rhai_grammar.specs.TreeNumbers.{number_among, AllLinks}
 use Rattle.rhai_grammar.specs.Prelude.{Position, Live, Text, Node, made_block, catch_live, caught_name, catch_node}
 use Rattle.rhai_grammar.specs.Prelude.{with_node, with_kept, definition_tree, defined_as, Nodes, Properties, no_nodes}
 use Rattle.rhai_grammar.specs.Prelude.{with_property, qualified, Link, added_text, is_variable, exported, Comment}
@@ -14,7 +14,6 @@ use Rattle.rhai_grammar.specs.Prelude.{WellNumbered, WellNumberedBlock, WellNumb
 use Rattle.rhai_grammar.specs.Prelude.{define_at, export_at, fresh_slot, is_in_block, later, names_in, names_of, number}
 use Rattle.rhai_grammar.specs.Prelude.{reused, with_alias, with_constant}
 use Rattle.rhai_grammar.proofs.NumberSteps as N
-use Rattle.rhai_grammar.specs.TreeNumbers.{AllLinks}
 use Rattle.rhai_grammar_laws.specs.Numbered.{names, Leaves}
 use Rattle.rhai_grammar.specs.Productions.{name}
 

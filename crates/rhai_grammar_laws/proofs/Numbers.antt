@@ -100,11 +100,8 @@ table R.DoEnd n = λ v e. do_end_kept v n
 table (R.In (R.Arms before) c w) n = λ v e. arms c w before v n
 table (R.In (R.Arm before) c w) n = λ xs m h guard o k is p q does r j fault u v z. (h tt, k, j)
 table (R.In (R.DefaultArm default) c w) n = (λ e. tt, λ e is p m x o h u q a v r b. h)
-table (R.In (R.Cases before) c w) n = λ x m h. (
-  λ e p o xs q k b. k (one_node (names w) before x b h),
-  λ e b.
-      one_node (names w) before x b h,
-)
+table (R.In (R.Cases before) c w) n =
+    λ x m h. (λ e p o xs q k b. k (one_node (names w) before x b h), λ e b. one_node (names w) before x b h)
 table (R.In R.Case c w) n = λ x m h. h
 table (R.In R.CaseGuard c w) n = (λ e p m x o h. h, λ e. tt)
 table (R.In R.Action c w) n = action c w (has_single_blocks c) n
@@ -113,15 +110,10 @@ table (R.DefaultEnd default) n = λ v e. default_end default v n
 table (R.Comments before) n = (λ e p m r o u. tt, λ e. tt)
 table (R.In (R.FunctionStatement comments p at is_private) c w) n = λ ok room f m h.
     (record { captured = []; own = f.function.parameters; is = h; none = λ e. refl }, (tt, refl))
-table (R.Function c comments at is_private) n = λ head m u ns o v. (
-  λ e p q room b r h. function comments is_private head.0 head.1 ns b h,
-  λ e. tt,
-)
-table R.FunctionHead n = λ is at m. (
-  λ e p o i q r k. tt,
-  λ e. by_either (λ x next. Unit {0}) (is_name n) _ _ m (λ k.
-      tt) tt,
-)
+table (R.Function c comments at is_private) n =
+    λ head m u ns o v. (λ e p q room b r h. function comments is_private head.0 head.1 ns b h, λ e. tt)
+table R.FunctionHead n =
+    λ is at m. (λ e p o i q r k. tt, λ e. by_either (λ x next. Unit {0}) (is_name n) _ _ m (λ k. tt) tt)
 table (R.ParameterList f) n = λ v e. parameters f v n
 table (R.Parameters parts f before) n = λ v e. parameter parts f before v n
 table (R.In (R.Closure at by) c w) n = closure_by c w at by n

@@ -1,7 +1,7 @@
 -- Productions of operands, calls and lists keep the numbers in their trees right.
 -- Each lemma is of the rule of its name, and goes by cases of what the next token decides.
 use Rattle.std.proofs.Common.{◌≡◌, ℕ, Bool, true, false, ◌&&◌, ◌||◌, Option, Some, None, refl, if◌then◌else◌}
-use Rattle.rhai_grammar.specs.TreeNumbers.{WellNumberedProperties, IsWellNumberedFunction}
+use Rattle.rhai_grammar.specs.TreeNumbers.{WellNumberedProperties, IsWellNumberedFunction, AllLinks}
 use Rattle.rhai_grammar.specs.Operators.{joining}
 use Rattle.rhai_grammar.specs.Signs.{effect, plain_sign}
 use Rattle.rhai_grammar.specs.declared.list.AfterPart.TheVariants as after
@@ -14,7 +14,7 @@ use Rattle.rhai_grammar.specs.declared.role.OperandStart.TheVariants as first
 use Rattle.rhai_grammar.specs.Prelude.{Lexeme, Position, Context, Live, Text, text_of, Node, Nodes, Properties}
 use Rattle.rhai_grammar.specs.Prelude.{no_nodes, may_be_value, KeyRole, FieldsEnd, AKey, NoKey, LinkSpot, calls}
 use Rattle.rhai_grammar.specs.Prelude.{may_be_called, is_this, MemberRole, AMember, NoMember, excludes_use, qualifies}
-use Rattle.rhai_grammar.specs.Prelude.{Follower, Operator, Unknown, Other, name_tree, is_variable, bracket_link}
+use Rattle.rhai_grammar.specs.Prelude.{Follower, Operator, name_tree, is_variable, bracket_link}
 use Rattle.rhai_grammar.specs.Prelude.{member_link, may_be_closure, AllWellNumbered, WellNumbered}
 use Rattle.rhai_grammar.specs.declared.list.AfterPart.{AfterPart}
 use Rattle.rhai_grammar.specs.declared.list.CommaList.{CommaList}
@@ -24,11 +24,9 @@ use Rattle.rhai_grammar.specs.declared.role.ItemRole.{ItemRole}
 use Rattle.rhai_grammar.specs.declared.role.Linking.{Linking}
 use Rattle.rhai_grammar.specs.declared.role.OperandStart.{OperandStart}
 use Rattle.rhai_grammar.proofs.NumberSteps as N
-use Rattle.rhai_grammar.specs.TreeNumbers.{AllLinks}
 use Rattle.rhai_grammar.specs.Strengths.{continues}
 use Rattle.rhai_grammar.specs.Productions.{Production}
 use Rattle.rhai_grammar.specs.Rules as P
-use Rattle.rhai_grammar.specs.Rules.{production}
 use Rattle.rhai_grammar_laws.specs.Kept.{Keeps}
 use Rattle.rhai_grammar_laws.specs.Numbered.{names, UnlessCalled, NumberedRight}
 use Rattle.rhai_grammar_laws.proofs.NumberTrees.{one_node, one_property, one_text, one_link}
@@ -171,8 +169,7 @@ field c w opening before (Some k) n = λ room x m h v e.
 
 pub follower : (v : Follower) (n : Lexeme) → KeepsIn (λ x. Unit {0}) (P.follower_by v) n
 follower (Operator k right) n = tt
-follower (Unknown t) n = tt
-follower Other n = tt
+follower _ n = tt
 
 pub binary : (c : Context) (w : Live) (at : Position) (parent : ℕ) (lhs : Node) (v : Option (ℕ × Bool)) (n : Lexeme)
     → KeepsIn (λ x. WellNumbered (names w) lhs → WellNumbered (names w) x) (P.binary_of c w at parent lhs v) n

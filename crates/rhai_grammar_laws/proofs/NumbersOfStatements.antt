@@ -2,7 +2,7 @@
 -- Each lemma is of the rule of its name, and goes by cases of what the next token decides.
 use Rattle.std.proofs.Common.{◌≡◌, Bool, true, false, List, [], ◌∷◌, Option, Some, None, refl, sym}
 use Rattle.rhai_lower.specs.Nodes as node
-use Rattle.rhai_grammar.specs.TreeNumbers.{names_after_all}
+use Rattle.rhai_grammar.specs.TreeNumbers.{names_after_all, IsCollected}
 use Rattle.rhai_grammar.specs.declared.role.AfterStatement.TheVariants as ends
 use Rattle.rhai_grammar.specs.declared.role.StatementRole.TheVariants as stands
 use Rattle.rhai_grammar.specs.declared.list.AfterPart.TheVariants as after
@@ -24,10 +24,8 @@ use Rattle.rhai_grammar.specs.declared.role.Calling.{Calling}
 use Rattle.rhai_grammar.specs.declared.role.ItemRole.{ItemRole}
 use Rattle.rhai_grammar.specs.declared.role.StatementStart.{StatementStart}
 use Rattle.rhai_grammar.proofs.NumberSteps as N
-use Rattle.rhai_grammar.specs.TreeNumbers.{IsCollected}
 use Rattle.rhai_grammar.specs.Productions.{Production}
 use Rattle.rhai_grammar.specs.Rules as P
-use Rattle.rhai_grammar.specs.Rules.{production}
 use Rattle.rhai_grammar_laws.specs.Numbered.{names, Leaves}
 use Rattle.rhai_grammar_laws.proofs.NumberTrees.{kept_statement, export_names, closure}
 use Rattle.rhai_grammar_laws.proofs.NumbersOfOperands.{KeepsIn, by_either, parted}
@@ -46,19 +44,17 @@ documented c w comments at _ n = λ e. absurd cc
 pub statement : (c : Context) (w : Live) (v : StatementStart) (n : Lexeme)
     → KeepsIn (λ (f : node.Statement × Live). Leaves w f.1 f.0) (P.statement_by c w v) n
 statement c w start.Empty n = λ at m. (tt, refl)
-statement c w (start.Construct kind) n = λ at m a b f o h. h
 statement c w start.Let n = λ at m room f o h. h
 statement c w start.Const n = λ at m room f o h. h
 statement c w start.Return n = λ at m x o h. (h, refl)
 statement c w start.Throw n = λ at m x o h. (h, refl)
 statement c w start.Break n = λ at m ok x o h. (h, refl)
 statement c w start.Continue n = λ at m ok. (tt, refl)
-statement c w start.Import n = λ at m a b f o h. h
-statement c w start.Export n = λ at m ok room f o h. h
 statement c w start.Function n = λ at m f o h. h
 statement c w start.Private n = λ at m is p o f q h. h
 statement c w start.Comment n = λ at m ok comments o h v e. documented c w comments at v o
 statement c w start.Expression n = λ at room f m h. h
+statement c w _ n = λ at m a b f o h. h
 
 abbrev pub ListRight : Live → node.Statements → node.Statements × Live → Type 0
 ListRight w before fs = (ns : List Text) → WellNumberedStatements ns before → names_after_all before ns ≡ names w
@@ -128,8 +124,7 @@ default_end default _ n = λ e. absurd cc
 pub parameters : (f : Text) (v : Calling) (n : Lexeme) → KeepsIn (λ x. Unit {0}) (P.parameters_by f v) n
 parameters f calls_by.Pair n = λ at m. tt
 parameters f calls_by.List n = λ at m r o h. tt
-parameters f calls_by.Bang n = tt
-parameters f calls_by.Nothing n = tt
+parameters f _ n = tt
 
 pub parameter : (parts : CommaList) (f : Text) (before : List Text) (v : ItemRole) (n : Lexeme)
     → KeepsIn (λ x. Unit {0}) (P.parameter_by parts f before v) n

@@ -1,10 +1,7 @@
 -- No cause in a production says that the key of a closure is there, but where a key is tested.
 use Rattle.std.proofs.Common.{◌≡◌, ℕ, false, Option, Some, refl, subst}
 use Rattle.rhai_lower.specs.Lexemes.{Faulty, Reserved}
-use Rattle.rhai_grammar.specs.Prelude.{Lexeme, Text, text_of}
-use Rattle.rhai_grammar.specs.Prelude.{Refusal}
-use Rattle.rhai_grammar.specs.Prelude.{unexpected, is_end}
-use Rattle.rhai_grammar.specs.Prelude.{missing}
+use Rattle.rhai_grammar.specs.Prelude.{Lexeme, Text, text_of, Refusal, unexpected, is_end, missing}
 use Rattle.rhai_grammar.specs.CommaLists.{closing_text}
 use Rattle.rhai_grammar.specs.Functions.{is_keyword, is_reserved_token}
 use Rattle.rhai_grammar.specs.Prelude as G

@@ -102,8 +102,7 @@ module _ (limit : ℕ) (Begun : ℕ → Goal → Type 0) (Right : (g : Goal) →
       ordered_in (adds {f = x} f) b k s t o m = ordered_in f b k (adding x s) t o.1 m.1
       ordered_in (uses {v = v} {c = c} {u = u} l at f) b k s t o m =
           ordered_in f b k (capturing (c s.library (next_at code s).lexeme) u s) t (o.1 (v l)) m.1.1
-      ordered_in (captures {c = c} {u = u} f) b k s t o m =
-          ordered_in f b k (capturing (c s.library) u s) t o.1 m.1
+      ordered_in (captures {c = c} {u = u} f) b k s t o m = ordered_in f b k (capturing (c s.library) u s) t o.1 m.1
       ordered_in (part v f rest) b k s t o m =
           let a = ordered f o.0 (F.demanded rule rest k) s t o.2 o.1 m in
           ordered_in rest b k a.end t (o.3 v a.end.library a.right a.kept) a.met
@@ -234,8 +233,7 @@ module _ (limit : ℕ) (Begun : ℕ → Goal → Type 0) (Right : (g : Goal) →
           token_or (next_at code s) s t e after w m inl (λ m. fails_in f b k s e n t w (o at) m))
       fails_in (must {e = why} f) b k s e n t w o m =
           test_or s t e why o.0 w m inl (λ is m. fails_in f b k s e n t w (o.1 is) m)
-      fails_in (checked f) b k s e n t w o m =
-          fault_or s t e o.0 w m inl (λ is m. fails_in f b k s e n t w (o.1 is) m)
+      fails_in (checked f) b k s e n t w o m = fault_or s t e o.0 w m inl (λ is m. fails_in f b k s e n t w (o.1 is) m)
       fails_in (knows {e = why} f) b k s e n t w o m =
           test_or s t e why o.0 w m inl (λ is m. fails_in f b k s e n t w (o.1 is) m)
       fails_in (adds {f = x} f) b k s e n t w o m = fails_in f b k (adding x s) e n t o.0 o.1 m.1
@@ -273,8 +271,7 @@ module _ (limit : ℕ) (Begun : ℕ → Goal → Type 0) (Right : (g : Goal) →
       fails_in (F.knows_here {e = why}) b k s e n t w o m = test_or s t e why o.0 w m inl (λ is m. absurd m)
       fails_in (F.uses_here {ok = ok} {e = why}) b k s e n t w o m =
           token_or (next_at code s) s t e (known ok why s.library o.0) w m inl (λ m. absurd m)
-      fails_in (F.captures_here {e = why}) b k s e n t w o m =
-          test_or s t e why (λ is. o.0) w m inl (λ is m. absurd m)
+      fails_in (F.captures_here {e = why}) b k s e n t w o m = test_or s t e why (λ is. o.0) w m inl (λ is m. absurd m)
       fails_in F.brace_here b k s e n t w o m = token_or (next_at code s) s t e brace w m inl (λ m. absurd m)
       fails_in (F.text_here closing) b k s e n t w o m =
           token_or (next_at code s) s t e brace w m inl (λ m. token_or (next_at code s) s t e after w m inl (λ m.

@@ -1,235 +1,147 @@
 -- Each production keeps libraries orderly: the table, and the law.
-use Rattle.std.proofs.Common.{◌≡◌, ℕ, ◌+◌, true, None, List, [], ◌∷◌, refl, subst, ap, length}
+use Rattle.std.proofs.Common.{◌≡◌, ℕ, ◌+◌, true, None, List, [], ◌∷◌, refl, subst, ap, length, ◌∙◌, sym, arith}
 use Rattle.rhai_lower.specs.Nodes as node
 use Rattle.rhai_grammar.specs.declared.list.CommaList.TheVariants as lists
-use Rattle.rhai_grammar.specs.Prelude.{Context, Live, Text, target_fault}
-use Rattle.rhai_grammar.specs.Prelude.{is_constant_use, is_name, guard_fault, iterated_fault}
-use Rattle.rhai_grammar.specs.Prelude.{has_single_blocks}
-use Rattle.rhai_grammar.specs.Prelude.{index_refusal}
-use Rattle.rhai_grammar.specs.Prelude.{arm_fault}
-use Rattle.rhai_grammar.specs.Prelude.{Use, Library, Refusal}
-use Rattle.rhai_grammar.specs.Prelude.{is_new, names_function}
-use Rattle.rhai_grammar.specs.Prelude.{closure_count, closure_name, ended_closure, made_block, noop}
+use Rattle.rhai_grammar.specs.Prelude.{Context, Live, Text, target_fault, is_constant_use, is_name, guard_fault}
+use Rattle.rhai_grammar.specs.Prelude.{iterated_fault, has_single_blocks, index_refusal, arm_fault, Use, Library}
+use Rattle.rhai_grammar.specs.Prelude.{Refusal, is_new, names_function, closure_count, closure_name, ended_closure}
+use Rattle.rhai_grammar.specs.Prelude.{made_block, noop, Point, Met, Missed, Mode, IsOrderly, Nothing, apart}
+use Rattle.rhai_grammar.specs.Prelude.{with_captured, capturing, is_captured, in_closure, level_up, parameters_live}
 use Rattle.rhai_grammar.proofs.LibrarySteps.{KeptWithin, few_closures}
-use Rattle.rhai_grammar.proofs.LibraryLemmas.{key_is_new}
+use Rattle.rhai_grammar.proofs.LibraryLemmas.{key_is_new, empty}
 use Rattle.rhai_grammar.proofs.EventEnds.{no_closure}
 use Rattle.rhai_grammar.proofs.SparedFaults as D
 use Rattle.rhai_grammar_reading.specs.Reading as R
-use Rattle.rhai_grammar_reading.specs.Reading.{In, Goal, Val}
+use Rattle.rhai_grammar_reading.specs.Reading.{In, Goal, Val, ClosureBody}
 use Rattle.rhai_grammar.specs.Productions.{give}
 use Rattle.rhai_grammar.specs.Rules as P
 use Rattle.rhai_grammar.specs.Rules.{production}
 use Rattle.rhai_grammar_laws.proofs.Constructs.{order_of_construct}
-use Rattle.rhai_grammar_laws.proofs.Ordering.{Spared, missing_spared, unexpected_spared}
+use Rattle.rhai_grammar_laws.proofs.Ordering.{Spared, missing_spared, unexpected_spared, ended, ordered, stops}
 use Rattle.rhai_grammar_laws.proofs.OrderCauses.{fault, no_body, no_function_name, no_variable}
-use Rattle.rhai_grammar_laws.proofs.OrdersOfOperands.{Begun, OrdersAs, OrdersRight, by_either, either_of, parted, operand}
+use Rattle.rhai_grammar_laws.proofs.OrdersOfOperands.{Begun, OrdersAs, OrdersRight, Quiet, by_either, either_of, orders, parted, operand}
 use Rattle.rhai_grammar_laws.proofs.OrdersOfOperands.{right, primary, called, call_of, links, element, key, field}
 use Rattle.rhai_grammar_laws.proofs.OrdersOfOperands.{follower, binary}
-use Rattle.std.proofs.Common.{◌∙◌, sym, arith}
-use Rattle.rhai_grammar.specs.Prelude.{Point, Met, Missed, Mode, IsOrderly, Nothing, apart, with_captured, capturing}
-use Rattle.rhai_grammar.specs.Prelude.{is_captured, in_closure, level_up, parameters_live}
-use Rattle.rhai_grammar.proofs.LibraryLemmas.{empty}
-use Rattle.rhai_grammar_reading.specs.Reading.{ClosureBody}
 use Rattle.rhai_grammar.specs.Forms as Form
 use Rattle.rhai_grammar_laws.specs.LibraryLaws.{FormsKeepOrder, LibrariesStayOrderly}
-use Rattle.rhai_grammar_laws.proofs.Ordering.{ended, ordered, stops}
 use Rattle.rhai_grammar_laws.proofs.OrdersOfStatements.{export, statement, statements, inside, do_end, arms}
 use Rattle.rhai_grammar_laws.proofs.OrdersOfStatements.{action, arm_end, default_end, parameters, parameter, begins}
 use Rattle.rhai_grammar_laws.proofs.OrdersOfStatements.{inner, joins, closure}
 
 module _ (limit : ℕ) where
-  abbrev Table : Goal → Type 0
-  Table g = (b : ℕ) (l : Library) → Begun limit b g → KeptWithin limit b l
-      → OrdersAs limit (λ x. OrdersRight g x) b (production g) l
+  -- what is shown of a goal: nothing where functions begin or end, or where it is known what a name is
+  abbrev Quietly : ℕ → Goal → Type 0
+  Quietly b (R.In (R.FunctionStatement comments first at is_private) c w) = Unit {0}
+  Quietly b (R.In (R.Closure at by) c w) = Unit {0}
+  Quietly b (R.Function c comments at is_private) = Unit {0}
+  Quietly b R.FunctionHead = Unit {0}
+  Quietly b g = Quiet limit b (production g)
 
-  pub table : (g : Goal) (b : ℕ) (l : Library) → Begun limit b g → KeptWithin limit b l
-      → OrdersAs limit (λ x. OrdersRight g x) b (production g) l
-  table (R.In R.Whole c w) b l i o = (b, o, i, λ x m r o. ((tt, o), unexpected_spared))
-  table (R.In R.Expression c w) b l i o = λ at. (λ e. refl, λ s. (b, o, i, λ x m r o. (b, o, i, λ x m r o. (tt, o))))
-  table (R.In R.Operand c w) b l i o = λ v n e. operand limit c w v b l i o
-  table (R.In (R.RightOperand place) c w) b l i o = λ v n e. right limit c w v b l i o
-  table (R.In R.Primary c w) b l i o = λ v n e. primary limit c w v b l i o
-  table (R.In (R.Called name q) c w) b l i o = λ v n e. called limit c w name q v b l i o
-  table (R.Path w x) b l i o = λ n at. (no_variable, λ n p. ((b, o, tt, λ x m r o. (tt, o)), (tt, o)))
-  table (R.Links w spot) b l i o = λ v n e. links limit w spot v b l i.0 i.1 o
-  table (R.In (R.Index indexed) c w) b l i o = (
-    b,
-    o,
+  quiet : (g : Goal) (b : ℕ) → Begun limit b g → Quietly b g
+  quiet (R.In R.Whole c w) b i = (i, λ x. (tt, unexpected_spared))
+  quiet (R.In R.Expression c w) b i = λ at. (refl, (i, λ x. (i, λ x. tt)))
+  quiet (R.In R.Operand c w) b i = λ v n e. operand limit c w v b i
+  quiet (R.In (R.RightOperand place) c w) b i = λ v n e. right limit c w v b i
+  quiet (R.In R.Primary c w) b i = λ v n e. primary limit c w v b i
+  quiet (R.In (R.Called name q) c w) b i = λ v n e. called limit c w name q v b i
+  quiet (R.Path w x) b i = λ n at. (no_variable, λ n p. ((tt, λ x. tt), tt))
+  quiet (R.Links w spot) b i = λ v n e. links limit w spot v b i.0 i.1
+  quiet (R.In (R.Index indexed) c w) b i =
+      (i, λ x. (fault (index_refusal indexed x) (D.index_refusal indexed x), (missing_spared _, λ n at. tt)))
+  quiet (R.In R.Member c w) b i =
+      λ n at. ((i, λ x. tt), either_of limit (is_name n) _ _ b (λ n. refl, tt) (refl, λ n. refl))
+  quiet (R.In (R.Postfix x) c w) b i = ((tt, λ y. call_of limit c w y b i), call_of limit c w x b i)
+  quiet (R.In (R.Arguments at) c w) b i = (missing_spared _, (λ n p. tt, (refl, (i, λ x. tt))))
+  quiet (R.In (R.Items before) c w) b i =
+      (i, λ x v n e. parted limit lists.Arguments _ _ v b (λ n at. tt, (i, λ x. tt)) tt)
+  quiet (R.In (R.Elements opening before) c w) b i = λ v n e. element limit c w opening before v b i
+  quiet (R.In (R.Fields opening before) c w) b i = (tt, λ v. field limit c w opening before v b i)
+  quiet (R.In (R.Segments opening before) c w) b i =
+      (tt, λ p. (refl, (i, λ fs. (tt, λ t. either_of limit t.2 _ _ b tt (i, λ x. tt)))))
+  quiet R.TextAfter b i = λ closing n at. tt
+  quiet (R.In (R.Jump at) c w) b i = ((refl, (i, λ x. tt)), (refl, tt))
+  quiet (R.NextKey c before) b i = λ v n e. key limit c before v n e b
+  quiet (R.NextOperator filter) b i = λ v n e. follower limit v b
+  quiet (R.In (R.BinaryOp at parent lhs) c w) b i = (tt, λ v. binary limit c w at parent lhs v b i)
+  quiet (R.In R.ExprStatement c w) b i = (
     i,
-    λ x m r o. (
-      fault (index_refusal indexed x) (D.index_refusal indexed x),
-      λ s. (missing_spared _, λ n at. (tt, o)),
-    ),
-  )
-  table (R.In R.Member c w) b l i o = λ n at. (
-    (b, o, i, λ x m r o. (tt, o)),
-    either_of limit (is_name n) _ _ b l (λ n. refl, (tt, o)) (λ e. refl, λ s n. refl),
-  )
-  table (R.In (R.Postfix x) c w) b l i o = ((b, o, tt, λ y m r o. call_of limit c w y b m i o), call_of limit c w x b l i o)
-  table (R.In (R.Arguments at) c w) b l i o = (
-    missing_spared _,
-    (λ n p. (tt, o), (λ e. refl, λ s. (b, o, i, λ x m r o. (tt, o)))),
-  )
-  table (R.In (R.Items before) c w) b l i o = (
-    b,
-    o,
-    i,
-    λ x m r o v n e. parted limit lists.Arguments _ _ v b m
-        (λ n at. (tt, o), (b, o, i, λ x m r o. (tt, o))) (tt, o),
-  )
-  table (R.In (R.Elements opening before) c w) b l i o = λ v n e. element limit c w opening before v b l i o
-  table (R.In (R.Fields opening before) c w) b l i o = (b, o, tt, λ v m r o. field limit c w opening before v b m i o)
-  table (R.In (R.Segments opening before) c w) b l i o = (
-    b,
-    o,
-    tt,
-    λ p m r o. (
-      λ e. refl,
-      λ s. (
-        b,
-        o,
-        i,
-        λ fs m r o.
-            (b, o, tt, λ t m r o. either_of limit t.2 _ _ b m (tt, o) (b, o, i, λ x m r o. (tt, o))),
-      ),
-    ),
-  )
-  table R.TextAfter b l i o = λ closing n at. (tt, o)
-  table (R.In (R.Jump at) c w) b l i o = ((λ e. refl, λ s. (b, o, i, λ x m r o. (tt, o))), (λ e. refl, λ s. (tt, o)))
-  table (R.NextKey c before) b l i o = λ v n e. key limit c before v n e b l o
-  table (R.NextOperator filter) b l i o = λ v n e. follower limit v b l o
-  table (R.In (R.BinaryOp at parent lhs) c w) b l i o = (b, o, tt, λ v m r o. binary limit c w at parent lhs v b m i o)
-  table (R.In R.ExprStatement c w) b l i o = (
-    b,
-    o,
-    i,
-    λ x m r o. (
+    λ x. (
       λ n at. (
-        b,
-        o,
         i,
-        λ y m r o. (
+        λ y. (
           fault (target_fault (is_constant_use w.slots x) n at x) (D.target_fault (is_constant_use w.slots x) n at x),
-          λ s. (tt, o),
+          tt,
         ),
       ),
-      (tt, o),
+      tt,
     ),
   )
-  table (R.In R.VarName c w) b l i o = (λ n at. (λ e. refl, λ s. (tt, o)), no_variable)
-  table (R.In (R.Initializer at) c w) b l i o = (λ n p. (λ e. refl, λ s. (b, o, i, λ x m r o. (tt, o))), (tt, o))
-  table (R.In (R.Definition at k x) c w) b l i o = (b, o, tt, λ x m r o. (b, o, i, λ x m r o. (tt, o)))
-  table (R.In (R.Import at) c w) b l i o = (b, o, i, λ x m r o. (b, o, tt, λ x m r o. (tt, o)))
-  table (R.In (R.Export at) c w) b l i o = λ v n e. export limit c w at v b l i o
-  table R.Alias b l i o = (λ n at. (no_variable, λ n p. (tt, o)), (tt, o))
-  table (R.In R.Statement c w) b l i o = λ v n e. statement limit c w v b l i o
-  table (R.In (R.Statements closing before) c w) b l i o = λ v n e. statements limit closing c w before v b l i o
-  table R.BlockStart b l i o = (missing_spared _, λ n at. (tt, o))
-  table (R.In R.Inside c w) b l i o = inside limit c w (has_single_blocks c) b l i o
-  table (R.In (R.Block at) c w) b l i o = (b, o, i, λ x m r o. (b, o, tt, λ x m r o. (tt, o)))
-  table (R.BlockEnd at fs) b l i o = (missing_spared _, λ n p. (tt, o))
-  table (R.In (R.Construct at kind) c w) b l i o = order_of_construct limit c w at kind b l i o
-  table (R.In (R.Braced at) c w) b l i o = (b, o, tt, λ x m r o. (λ e. refl, λ s. (b, o, i, λ x m r o. (tt, o))))
-  table (R.In R.Guard c w) b l i o = (
-    λ n. refl,
-    (
-      b,
-      o,
-      i,
-      λ x m r o. (
-        fault (guard_fault x) (D.guard_fault x),
-        λ s. (λ n. refl, (tt, o)),
-      ),
-    ),
-  )
-  table (R.In R.Iterated c w) b l i o = (
-    λ n. refl,
-    (
-      b,
-      o,
-      i,
-      λ x m r o. (
-        fault (iterated_fault x) (D.iterated_fault x),
-        λ s. (tt, o),
-      ),
-    ),
-  )
-  table (R.In (R.Conditional at) c w) b l i o = (b, o, i, λ x m r o. (b, o, i, λ x m r o. (b, o, i, λ x m r o. (tt, o))))
-  table (R.In (R.Branch at) c w) b l i o = (
-    λ n p. (
-      λ n q. (λ e. refl, λ s. (b, o, i, λ x m r o. (tt, o))),
-      (b, o, i, λ x m r o. (tt, o)),
-    ),
-    (tt, o),
-  )
-  table R.LoopNames b l i o = (
+  quiet (R.In R.VarName c w) b i = (λ n at. (refl, tt), no_variable)
+  quiet (R.In (R.Initializer at) c w) b i = (λ n p. (refl, (i, λ x. tt)), tt)
+  quiet (R.In (R.Definition at k x) c w) b i = (i, λ x. (i, λ x. tt))
+  quiet (R.In (R.Import at) c w) b i = (i, λ x. (tt, λ x. tt))
+  quiet (R.In (R.Export at) c w) b i = λ v n e. export limit c w at v b i
+  quiet R.Alias b i = (λ n at. (no_variable, λ n p. tt), tt)
+  quiet (R.In R.Statement c w) b i = λ v n e. statement limit c w v b i
+  quiet (R.In (R.Statements closing before) c w) b i = λ v n e. statements limit closing c w before v b i
+  quiet R.BlockStart b i = (missing_spared _, λ n at. tt)
+  quiet (R.In R.Inside c w) b i = inside limit c w (has_single_blocks c) b i
+  quiet (R.In (R.Block at) c w) b i = (i, λ x. (tt, λ x. tt))
+  quiet (R.BlockEnd at fs) b i = (missing_spared _, λ n p. tt)
+  quiet (R.In (R.Construct at kind) c w) b i = order_of_construct limit c w at kind b i
+  quiet (R.In (R.Braced at) c w) b i = (tt, λ x. (refl, (i, λ x. tt)))
+  quiet (R.In R.Guard c w) b i = (λ n. refl, (i, λ x. (fault (guard_fault x) (D.guard_fault x), (λ n. refl, tt))))
+  quiet (R.In R.Iterated c w) b i = (λ n. refl, (i, λ x. (fault (iterated_fault x) (D.iterated_fault x), tt)))
+  quiet (R.In (R.Conditional at) c w) b i = (i, λ x. (i, λ x. (i, λ x. tt)))
+  quiet (R.In (R.Branch at) c w) b i = (λ n p. (λ n q. (refl, (i, λ x. tt)), (i, λ x. tt)), tt)
+  quiet R.LoopNames b i = (
     λ n at. (
       no_variable,
       λ n p. (
         missing_spared _,
         λ n q. (
           no_variable,
-          λ n r. (
-            λ e. refl,
-            λ s.
-                (missing_spared _, λ n u. (missing_spared _, λ n v. (tt, o))),
-          ),
+          λ n r. (refl, (missing_spared _, λ n u. (missing_spared _, λ n v. tt))),
         ),
       ),
     ),
-    (no_variable, λ n at. (missing_spared _, λ n p. (tt, o))),
+    (no_variable, λ n at. (missing_spared _, λ n p. tt)),
   )
-  table R.Catch b l i o = (
-    missing_spared _,
-    λ n at. (
-      λ n p. (no_variable, λ n q. (missing_spared _, λ n r. (tt, o))),
-      (tt, o),
-    ),
-  )
-  table R.DoEnd b l i o = λ v n e. do_end limit v b l o
-  table (R.In (R.Arms before) c w) b l i o = λ v n e. arms limit c w before v b l i o
-  table (R.In (R.Arm before) c w) b l i o = (
-    b,
-    o,
+  quiet R.Catch b i = (missing_spared _, λ n at. (λ n p. (no_variable, λ n q. (missing_spared _, λ n r. tt)), tt))
+  quiet R.DoEnd b i = λ v n e. do_end limit v b
+  quiet (R.In (R.Arms before) c w) b i = λ v n e. arms limit c w before v b i
+  quiet (R.In (R.Arm before) c w) b i = (
     i,
-    λ xs m r o. (
-      b,
-      o,
+    λ xs. (
       i,
-      λ g m r o. (
+      λ g. (
         missing_spared _,
         λ n at. (
-          b,
-          o,
           i,
-          λ d m r o. (
+          λ d. (
             fault (arm_fault before xs) (D.arm_fault before xs),
-            λ s. (b, o, tt, λ x m r o. (tt, o)),
+            (tt, λ x. tt),
           ),
         ),
       ),
     ),
   )
-  table (R.In (R.DefaultArm default) c w) b l i o = (
-    λ n. refl,
-    (
-      missing_spared _,
-      λ n at. (
-        b,
-        o,
-        i,
-        λ d m r o.
-            (b, o, tt, λ x m r o. (b, o, tt, λ x m r o. (tt, o))),
-      ),
-    ),
-  )
-  table (R.In (R.Cases before) c w) b l i o = (b, o, i, λ x m r o. (λ n at. (b, o, i, λ x m r o. (tt, o)), (tt, o)))
-  table (R.In R.Case c w) b l i o = (b, o, i, λ x m r o. (tt, o))
-  table (R.In R.CaseGuard c w) b l i o = (λ n at. (b, o, i, λ x m r o. (tt, o)), (tt, o))
-  table (R.In R.Action c w) b l i o = action limit c w (has_single_blocks c) b l i o
-  table (R.ArmEnd itself) b l i o = λ v n e. arm_end limit itself v b l o
-  table (R.DefaultEnd default) b l i o = λ v n e. default_end limit default v b l o
-  table (R.Comments before) b l i o = (λ n at. (b, o, tt, λ x m r o. (tt, o)), (tt, o))
+  quiet (R.In (R.DefaultArm default) c w) b i =
+      (λ n. refl, (missing_spared _, λ n at. (i, λ d. (tt, λ x. (tt, λ x. tt)))))
+  quiet (R.In (R.Cases before) c w) b i = (i, λ x. (λ n at. (i, λ x. tt), tt))
+  quiet (R.In R.Case c w) b i = (i, λ x. tt)
+  quiet (R.In R.CaseGuard c w) b i = (λ n at. (i, λ x. tt), tt)
+  quiet (R.In R.Action c w) b i = action limit c w (has_single_blocks c) b i
+  quiet (R.ArmEnd itself) b i = λ v n e. arm_end limit itself v b
+  quiet (R.DefaultEnd default) b i = λ v n e. default_end limit default v b
+  quiet (R.Comments before) b i = (λ n at. (tt, λ x. tt), tt)
+  quiet (R.ParameterList f) b i = λ v n e. parameters limit f v b
+  quiet (R.Parameters parts f before) b i = λ v n e. parameter limit parts f before v b
+  quiet (R.In R.ClosureBody c w) b i = (λ at. tt, (i, λ x. tt))
+  quiet _ b i = tt
+
+  pub table : (g : Goal) (b : ℕ) (l : Library) → Begun limit b g → KeptWithin limit b l
+      → OrdersAs limit (λ x. OrdersRight g x) b (production g) l
   table (R.In (R.FunctionStatement comments p at is_private) c w) b l i o = (
     λ e. refl,
     λ s. (
@@ -277,10 +189,8 @@ module _ (limit : ℕ) where
       by_either limit (λ x. names_function x.1 ≡ true) (is_name n) _ _ b l (λ e. refl, λ s. (s, o)) (missing_spared _),
     ),
   )
-  table (R.ParameterList f) b l i o = λ v n e. parameters limit f v b l o
-  table (R.Parameters parts f before) b l i o = λ v n e. parameter limit parts f before v b l o
   table (R.In (R.Closure at by) c w) b l i o = (λ e. refl, λ room. closure limit c w at by b l i (begins limit c b l i o room))
-  table (R.In R.ClosureBody c w) b l i o = (λ at. (tt, o), (b, o, i, λ x m r o. (tt, o)))
+  table g b l i o = orders limit b (production g) l (quiet g b i) o
 
 -- ---- the law
 

@@ -12,11 +12,9 @@ use Rattle.rhai_grammar.specs.declared.role.Bars.TheVariants as bars
 use Rattle.rhai_grammar.specs.declared.role.Calling.TheVariants as calls_by
 use Rattle.rhai_grammar.specs.declared.role.ItemRole.TheVariants as place
 use Rattle.rhai_grammar.specs.declared.role.StatementStart.TheVariants as start
-use Rattle.rhai_grammar.specs.Prelude.{Position, Context, Live, Text}
-use Rattle.rhai_grammar.specs.Prelude.{ends_itself, with_kept}
-use Rattle.rhai_grammar.specs.Prelude.{Comment, Collected, Use, Library, Ended}
-use Rattle.rhai_grammar.specs.Prelude.{duplicate_of, is_new, may_begin, is_closure}
-use Rattle.rhai_grammar.specs.Prelude.{with_ended, closure_count, closure_name, closure_node, ended_closure, made_block}
+use Rattle.rhai_grammar.specs.Prelude.{Position, Context, Live, Text, ends_itself, with_kept, Comment, Collected, Use}
+use Rattle.rhai_grammar.specs.Prelude.{Library, Ended, duplicate_of, is_new, may_begin, is_closure, with_ended}
+use Rattle.rhai_grammar.specs.Prelude.{closure_count, closure_name, closure_node, ended_closure, made_block}
 use Rattle.rhai_grammar.specs.declared.role.AfterStatement.{AfterStatement}
 use Rattle.rhai_grammar.specs.declared.role.Closing.{Closing}
 use Rattle.rhai_grammar.specs.declared.role.StatementRole.{StatementRole}
@@ -31,119 +29,96 @@ use Rattle.rhai_grammar.proofs.LibrarySteps.{KeptWithin, few_closures, one_begin
 use Rattle.rhai_grammar.proofs.LibraryLemmas.{closure_added, function_added, key_is_new}
 use Rattle.rhai_grammar.specs.Productions.{Production, adds, give, knows}
 use Rattle.rhai_grammar.specs.Rules as P
-use Rattle.rhai_grammar.specs.Rules.{production}
 use Rattle.rhai_grammar_laws.proofs.Ordering.{Spared, missing_spared, within}
 use Rattle.rhai_grammar_laws.proofs.OrderCauses.{no_parameter, no_parameters, no_variable}
-use Rattle.rhai_grammar_laws.proofs.OrdersOfOperands.{Begun, Fits, OrdersIn, OrdersRight, either_of, parted}
+use Rattle.rhai_grammar_laws.proofs.OrdersOfOperands.{Begun, Fits, OrdersIn, OrdersRight, Quiet, either_of, parted}
 
 module _ (limit : ℕ) where
-  pub export : (c : Context) (w : Live) (at : Position) (v : Option Bool) (b : ℕ) (l : Library) → Fits limit b c
-      → KeptWithin limit b l → OrdersIn limit b (P.export_by c w at v) l
-  export c w at (Some constant) b l i o = (λ e. refl, λ s n pos. (b, o, i, λ x m r o. (tt, o)))
-  export c w at None b l i o = (no_variable, λ n p. (b, o, tt, λ x m r o. (tt, o)))
+  pub export : (c : Context) (w : Live) (at : Position) (v : Option Bool) (b : ℕ) → Fits limit b c
+      → Quiet limit b (P.export_by c w at v)
+  export c w at (Some constant) b i = (refl, λ n pos. (i, λ x. tt))
+  export c w at None b i = (no_variable, λ n p. (tt, λ x. tt))
 
   pub documented : (c : Context) (w : Live) (comments : List Comment) (at : Position) (v : StatementStart) (b : ℕ)
-      (l : Library) → Fits limit b c → KeptWithin limit b l → OrdersIn limit b (P.documented_by c w comments at v) l
-  documented c w comments at start.Function b l i o = λ n p. (b, o, i, λ x m r o. (tt, o))
-  documented c w comments at start.Private b l i o = λ n p. (missing_spared _, λ n q. (b, o, i, λ x m r o. (tt, o)))
-  documented c w comments at _ b l i o = (λ e. refl, λ s n. refl)
+      → Fits limit b c → Quiet limit b (P.documented_by c w comments at v)
+  documented c w comments at start.Function b i = λ n p. (i, λ x. tt)
+  documented c w comments at start.Private b i = λ n p. (missing_spared _, λ n q. (i, λ x. tt))
+  documented c w comments at _ b i = (refl, λ n. refl)
 
-  pub statement : (c : Context) (w : Live) (v : StatementStart) (b : ℕ) (l : Library) → Fits limit b c → KeptWithin limit b l
-      → OrdersIn limit b (P.statement_by c w v) l
-  statement c w start.Empty b l i o = λ n at. (tt, o)
-  statement c w (start.Construct kind) b l i o = λ n at.
-      (λ e. refl, λ s. (λ e. refl, λ s. (b, o, i, λ x m r o. (tt, o))))
-  statement c w start.Let b l i o = λ n at. (λ e. refl, λ s. (b, o, i, λ x m r o. (tt, o)))
-  statement c w start.Const b l i o = λ n at. (λ e. refl, λ s. (b, o, i, λ x m r o. (tt, o)))
-  statement c w start.Return b l i o = λ n at. (b, o, i, λ x m r o. (tt, o))
-  statement c w start.Throw b l i o = λ n at. (b, o, i, λ x m r o. (tt, o))
-  statement c w start.Break b l i o = λ n at. (λ e. refl, λ s. (b, o, i, λ x m r o. (tt, o)))
-  statement c w start.Continue b l i o = λ n at. (λ e. refl, λ s. (tt, o))
-  statement c w start.Import b l i o = λ n at. (λ e. refl, λ s. (λ e. refl, λ s. (b, o, i, λ x m r o. (tt, o))))
-  statement c w start.Export b l i o = λ n at. (λ e. refl, λ s. (λ e. refl, λ s. (b, o, i, λ x m r o. (tt, o))))
-  statement c w start.Function b l i o = λ n at. (b, o, i, λ x m r o. (tt, o))
-  statement c w start.Private b l i o = λ n at. (missing_spared _, λ n p. (b, o, i, λ x m r o. (tt, o)))
-  statement c w start.Comment b l i o = λ n at. (
-    λ e. refl,
-    λ s. (
-      b,
-      o,
-      tt,
-      λ comments m r o v n e.
-          documented c w comments at v b m i o,
-    ),
-  )
-  statement c w start.Expression b l i o = λ at. (λ e. refl, λ s. (b, o, i, λ x m r o. (tt, o)))
+  pub statement : (c : Context) (w : Live) (v : StatementStart) (b : ℕ) → Fits limit b c
+      → Quiet limit b (P.statement_by c w v)
+  statement c w start.Empty b i = λ n at. tt
+  statement c w (start.Construct kind) b i = λ n at. (refl, (refl, (i, λ x. tt)))
+  statement c w start.Let b i = λ n at. (refl, (i, λ x. tt))
+  statement c w start.Const b i = λ n at. (refl, (i, λ x. tt))
+  statement c w start.Return b i = λ n at. (i, λ x. tt)
+  statement c w start.Throw b i = λ n at. (i, λ x. tt)
+  statement c w start.Break b i = λ n at. (refl, (i, λ x. tt))
+  statement c w start.Continue b i = λ n at. (refl, tt)
+  statement c w start.Import b i = λ n at. (refl, (refl, (i, λ x. tt)))
+  statement c w start.Export b i = λ n at. (refl, (refl, (i, λ x. tt)))
+  statement c w start.Function b i = λ n at. (i, λ x. tt)
+  statement c w start.Private b i = λ n at. (missing_spared _, λ n p. (i, λ x. tt))
+  statement c w start.Comment b i = λ n at. (refl, (tt, λ comments v n e. documented c w comments at v b i))
+  statement c w start.Expression b i = λ at. (refl, (i, λ x. tt))
 
   pub separated : (closing : Closing) (c : Context) (w : Live) (fs : node.Statements) (v : AfterStatement) (b : ℕ)
-      (l : Library) → Fits limit b c → KeptWithin limit b l → OrdersIn limit b (P.separated closing c w fs v) l
-  separated closing c w fs ends.SemiColon b l i o = λ n at. (b, o, i, λ x m r o. (tt, o))
-  separated closing c w fs ends.Close b l i o = (tt, o)
-  separated closing c w fs ends.Nothing b l i o = missing_spared _
+      → Fits limit b c → Quiet limit b (P.separated closing c w fs v)
+  separated closing c w fs ends.SemiColon b i = λ n at. (i, λ x. tt)
+  separated closing c w fs ends.Close b i = tt
+  separated closing c w fs ends.Nothing b i = missing_spared _
 
-  pub after_one : (closing : Closing) (c : Context) (w : Live) (fs : node.Statements) (s : Bool) (b : ℕ) (l : Library)
-      → Fits limit b c → KeptWithin limit b l → OrdersIn limit b (P.after_one closing c w fs s) l
-  after_one closing c w fs true b l i o = (b, o, i, λ x m r o. (tt, o))
-  after_one closing c w fs false b l i o = λ v n e. separated closing c w fs v b l i o
+  pub after_one : (closing : Closing) (c : Context) (w : Live) (fs : node.Statements) (s : Bool) (b : ℕ)
+      → Fits limit b c → Quiet limit b (P.after_one closing c w fs s)
+  after_one closing c w fs true b i = (i, λ x. tt)
+  after_one closing c w fs false b i = λ v n e. separated closing c w fs v b i
 
   pub statements : (closing : Closing) (c : Context) (w : Live) (fs : node.Statements) (v : StatementRole) (b : ℕ)
-      (l : Library) → Fits limit b c → KeptWithin limit b l → OrdersIn limit b (P.statements closing c w fs v) l
-  statements closing c w fs stands.Close b l i o = (tt, o)
-  statements closing c w fs stands.Statement b l i o = (
-    b,
-    o,
-    i,
-    λ f m r o.
-        after_one closing c f.1 (with_kept fs f.0) (ends_itself f.0) b m i o,
-  )
-  statements closing c w fs stands.Nothing b l i o = missing_spared _
+      → Fits limit b c → Quiet limit b (P.statements closing c w fs v)
+  statements closing c w fs stands.Close b i = tt
+  statements closing c w fs stands.Statement b i =
+      (i, λ f. after_one closing c f.1 (with_kept fs f.0) (ends_itself f.0) b i)
+  statements closing c w fs stands.Nothing b i = missing_spared _
 
-  pub inside : (c : Context) (w : Live) (s : Bool) (b : ℕ) (l : Library) → Fits limit b c → KeptWithin limit b l
-      → OrdersIn limit b (P.inside_by c w s) l
-  inside c w true b l i o = (b, o, i, λ x m r o. (tt, o))
-  inside c w false b l i o = (b, o, i, λ x m r o. (tt, o))
+  pub inside : (c : Context) (w : Live) (s : Bool) (b : ℕ) → Fits limit b c → Quiet limit b (P.inside_by c w s)
+  inside c w true b i = (i, λ x. tt)
+  inside c w false b i = (i, λ x. tt)
 
-  pub do_end : (v : Option Bool) (b : ℕ) (l : Library) → KeptWithin limit b l → OrdersIn limit b (P.do_end_by v) l
-  do_end None b l o = missing_spared _
-  do_end (Some s) b l o = λ n at. (tt, o)
+  pub do_end : (v : Option Bool) (b : ℕ) → Quiet limit b (P.do_end_by v)
+  do_end None b = missing_spared _
+  do_end (Some s) b = λ n at. tt
 
-  pub arms : (c : Context) (w : Live) (before : Collected) (v : ArmRole) (b : ℕ) (l : Library) → Fits limit b c
-      → KeptWithin limit b l → OrdersIn limit b (P.arms_by c w before v) l
-  arms c w before arm.Case b l i o = (b, o, i, λ x m r o. (b, o, i, λ x m r o. (tt, o)))
-  arms c w before arm.Default b l i o = λ n at. (b, o, i, λ x m r o. (tt, o))
-  arms c w before arm.Close b l i o = λ n at. (tt, o)
-  arms c w before arm.Nothing b l i o = missing_spared _
+  pub arms : (c : Context) (w : Live) (before : Collected) (v : ArmRole) (b : ℕ) → Fits limit b c
+      → Quiet limit b (P.arms_by c w before v)
+  arms c w before arm.Case b i = (i, λ x. (i, λ x. tt))
+  arms c w before arm.Default b i = λ n at. (i, λ x. tt)
+  arms c w before arm.Close b i = λ n at. tt
+  arms c w before arm.Nothing b i = missing_spared _
 
-  pub action : (c : Context) (w : Live) (s : Bool) (b : ℕ) (l : Library) → Fits limit b c → KeptWithin limit b l
-      → OrdersIn limit b (P.action_by c w s) l
-  action c w true b l i o = (b, o, i, λ x m r o. (tt, o))
-  action c w false b l i o = (λ n. refl, (b, o, i, λ x m r o. (tt, o)))
+  pub action : (c : Context) (w : Live) (s : Bool) (b : ℕ) → Fits limit b c → Quiet limit b (P.action_by c w s)
+  action c w true b i = (i, λ x. tt)
+  action c w false b i = (λ n. refl, (i, λ x. tt))
 
-  pub arm_end : (itself : Bool) (v : AfterPart) (b : ℕ) (l : Library) → KeptWithin limit b l
-      → OrdersIn limit b (P.arm_end_by itself v) l
-  arm_end itself after.Comma b l o = λ n at. (tt, o)
-  arm_end itself after.Close b l o = (tt, o)
-  arm_end itself after.Nothing b l o = either_of limit itself _ _ b l (tt, o) (λ n. missing_spared _ n)
+  pub arm_end : (itself : Bool) (v : AfterPart) (b : ℕ) → Quiet limit b (P.arm_end_by itself v)
+  arm_end itself after.Comma b = λ n at. tt
+  arm_end itself after.Close b = tt
+  arm_end itself after.Nothing b = either_of limit itself _ _ b tt (λ n. missing_spared _ n)
 
-  pub default_end : (default : Position) (v : ArmRole) (b : ℕ) (l : Library) → KeptWithin limit b l
-      → OrdersIn limit b (P.default_end_by default v) l
-  default_end default arm.Close b l o = λ n at. (tt, o)
-  default_end default arm.Nothing b l o = missing_spared _
-  default_end default _ b l o = (λ e. refl, λ s n. refl)
+  pub default_end : (default : Position) (v : ArmRole) (b : ℕ) → Quiet limit b (P.default_end_by default v)
+  default_end default arm.Close b = λ n at. tt
+  default_end default arm.Nothing b = missing_spared _
+  default_end default _ b = (refl, λ n. refl)
 
-  pub parameters : (f : Text) (v : Calling) (b : ℕ) (l : Library) → KeptWithin limit b l
-      → OrdersIn limit b (P.parameters_by f v) l
-  parameters f calls_by.Pair b l o = λ n at. (tt, o)
-  parameters f calls_by.List b l o = λ n at. (b, o, tt, λ x m r o. (tt, o))
-  parameters f calls_by.Bang b l o = no_parameters f
-  parameters f calls_by.Nothing b l o = no_parameters f
+  pub parameters : (f : Text) (v : Calling) (b : ℕ) → Quiet limit b (P.parameters_by f v)
+  parameters f calls_by.Pair b = λ n at. tt
+  parameters f calls_by.List b = λ n at. (tt, λ x. tt)
+  parameters f _ b = no_parameters f
 
-  pub parameter : (parts : CommaList) (f : Text) (before : List Text) (v : ItemRole) (b : ℕ) (l : Library)
-      → KeptWithin limit b l → OrdersIn limit b (P.parameter_by parts f before v) l
-  parameter parts f before place.End b l o = λ n at. (tt, o)
-  parameter parts f before place.Item b l o = λ n at.
-      (λ e. refl, λ s v n e. parted limit parts _ _ v b l (b, o, tt, λ x m r o. (tt, o)) (tt, o))
-  parameter parts f before place.Nothing b l o = no_parameter parts
+  pub parameter : (parts : CommaList) (f : Text) (before : List Text) (v : ItemRole) (b : ℕ)
+      → Quiet limit b (P.parameter_by parts f before v)
+  parameter parts f before place.End b = λ n at. tt
+  parameter parts f before place.Item b = λ n at. (refl, λ v n e. parted limit parts _ _ v b (tt, λ x. tt) tt)
+  parameter parts f before place.Nothing b = no_parameter parts
 
   -- ---- functions and closures
 

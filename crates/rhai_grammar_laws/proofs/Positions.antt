@@ -2,25 +2,21 @@
 use Rattle.std.proofs.Common.{suc, List, [], ◌∷◌, refl, map, inl, inr, arith}
 use Rattle.std.specs.List.{Contains}
 use Rattle.rhai_grammar.specs.declared.list.CommaList.TheVariants as lists
-use Rattle.rhai_grammar.specs.Prelude.{Position, text_of}
-use Rattle.rhai_grammar.specs.Prelude.{is_constant_use, is_name}
-use Rattle.rhai_grammar.specs.Prelude.{has_single_blocks}
-use Rattle.rhai_grammar.specs.Prelude.{Use, Library}
-use Rattle.rhai_grammar_reading.specs.Reading as R
-use Rattle.rhai_grammar_reading.specs.Reading.{Goal, Val}
-use Rattle.rhai_grammar.specs.Rules.{production}
+use Rattle.rhai_grammar.specs.Prelude.{Position, text_of, is_constant_use, is_name, has_single_blocks, Use, Library}
 use Rattle.rhai_grammar.specs.Prelude.{Taken, Cursor, Point, Mode, latest_first}
+use Rattle.rhai_grammar_reading.specs.Reading as R
+use Rattle.rhai_grammar_reading.specs.Reading.{Goal}
+use Rattle.rhai_grammar.specs.Rules.{production}
 use Rattle.rhai_grammar.specs.Cursors.{next_item}
 use Rattle.rhai_grammar_laws.specs.PositionLaws.{StandsAmong, StandsAtToken, RefusalsStandAtTokens, StandAtTokens}
 use Rattle.rhai_grammar.proofs.PositionSteps.{AllTaken, Ends}
 use Rattle.rhai_grammar.proofs.PositionTrees as T
-use Rattle.rhai_grammar.proofs.PositionTrees.{AllLinks, AllPlaced, Placed}
+use Rattle.rhai_grammar.proofs.PositionTrees.{Placed}
 use Rattle.rhai_grammar_laws.proofs.Constructs.{position_of_construct}
 use Rattle.rhai_grammar_laws.proofs.Standing.{refused}
 use Rattle.rhai_grammar_laws.proofs.PositionsOfOperands.{AllowsAs, Wants, PlacedRight, by_either, either_of, parted}
 use Rattle.rhai_grammar_laws.proofs.PositionsOfOperands.{one_more, longer, operand, right, primary, called, call_of}
-use Rattle.rhai_grammar_laws.proofs.PositionsOfOperands.{links}
-use Rattle.rhai_grammar_laws.proofs.PositionsOfOperands.{element, key, field, follower, binary}
+use Rattle.rhai_grammar_laws.proofs.PositionsOfOperands.{links, element, key, field, follower, binary}
 use Rattle.rhai_grammar_laws.proofs.PositionsOfStatements.{export, statement, statements, inside, do_end, arms}
 use Rattle.rhai_grammar_laws.proofs.PositionsOfStatements.{action, arm_end, default_end, parameters, parameter, closure}
 
@@ -35,13 +31,10 @@ module _ (G : Position → Type 0) where
   table (R.In (R.RightOperand place) c w) i = λ v. right G c w v
   table (R.In R.Primary c w) i = λ v. primary G c w v
   table (R.In (R.Called name q) c w) i = λ v. called G c w name q v i
-  table (R.Path w x) i = λ n at a m p b. (
-    (longer G w.imports x (text_of m) p i b, λ y k. k),
-    longer G w.imports x (text_of m) p i b,
-  )
+  table (R.Path w x) i =
+      λ n at a m p b. ((longer G w.imports x (text_of m) p i b, λ y k. k), longer G w.imports x (text_of m) p i b)
   table (R.Links w spot) i = λ v. links G w spot v i
-  table (R.In (R.Index indexed) c w) i =
-      (tt, λ x h. (T.of_index G indexed x h, λ n p a. h))
+  table (R.In (R.Index indexed) c w) i = (tt, λ x h. (T.of_index G indexed x h, λ n p a. h))
   table (R.In R.Member c w) i = λ n at a. ((a, λ call h. a), by_either G (Placed G) (is_name n) _ _ (tt, a) (λ e. a, tt))
   table (R.In (R.Postfix x) c w) i = ((i, λ y k. call_of G c w y k), call_of G c w x i)
   table (R.In (R.Arguments at) c w) i = (tt, (λ n p a. tt, (λ e. i, (tt, λ ns h. tt))))
@@ -55,19 +48,8 @@ module _ (G : Position → Type 0) where
   table (R.NextKey c before) i = λ v. key G c before v
   table (R.NextOperator filter) i = λ v. follower G v
   table (R.In (R.BinaryOp at parent lhs) c w) i = (tt, λ v h. binary G c w at parent lhs v i.0 i.1)
-  table (R.In R.ExprStatement c w) i = (
-    tt,
-    λ x h. (
-      λ n at a. (
-        tt,
-        λ y k. (
-          T.of_target G (is_constant_use w.slots x) n at x a h,
-          a,
-        ),
-      ),
-      T.position G x h,
-    ),
-  )
+  table (R.In R.ExprStatement c w) i =
+      (tt, λ x h. (λ n at a. (tt, λ y k. (T.of_target G (is_constant_use w.slots x) n at x a h, a)), T.position G x h))
   table (R.In R.VarName c w) i = (λ n at a. (λ e. a, tt), tt)
   table (R.In (R.Initializer at) c w) i = (λ n p a. (λ e. i, (tt, λ x h. tt)), tt)
   table (R.In (R.Definition at k x) c w) i = (tt, λ n h. (i, λ x k. i))
@@ -90,25 +72,11 @@ module _ (G : Position → Type 0) where
   table R.Catch i = λ n p a. (λ m q b k r c j s d. tt, tt)
   table R.DoEnd i = λ v. do_end G v
   table (R.In (R.Arms before) c w) i = λ v. arms G c w before v
-  table (R.In (R.Arm before) c w) i = (
-    tt,
-    λ xs h. (
-      tt,
-      λ g k n p a. (
-        tt,
-        λ d j.
-            (T.of_arm G before xs h, (tt, λ e q. tt)),
-      ),
-    ),
-  )
+  table (R.In (R.Arm before) c w) i =
+      (tt, λ xs h. (tt, λ g k n p a. (tt, λ d j. (T.of_arm G before xs h, (tt, λ e q. tt)))))
   table (R.In (R.DefaultArm default) c w) i = (tt, λ n p a. (tt, λ d h. (tt, λ e k. (i, λ x j. tt))))
-  table (R.In (R.Cases before) c w) i = (
-    tt,
-    λ x k. (
-      λ n p a. (one_more G before x i k, λ xs j. j),
-      one_more G before x i k,
-    ),
-  )
+  table (R.In (R.Cases before) c w) i =
+      (tt, λ x k. (λ n p a. (one_more G before x i k, λ xs j. j), one_more G before x i k))
   table (R.In R.Case c w) i = (tt, λ x h. h)
   table (R.In R.CaseGuard c w) i = (λ n p a. (tt, λ x h. tt), tt)
   table (R.In R.Action c w) i = action G c w (has_single_blocks c)
@@ -117,8 +85,7 @@ module _ (G : Position → Type 0) where
   table (R.Comments before) i = (λ n at a. (tt, λ r h. tt), tt)
   table (R.In (R.FunctionStatement comments p at is_private) c w) i =
       (λ e. i.0, (i.1, (λ e. i.1, (i.1, λ ended h. (i.1, i.1)))))
-  table (R.Function c comments at is_private) i =
-      (tt, λ head h. (tt, λ ns k. (λ n p a. (λ e. i, (a, λ b j. tt)), tt)))
+  table (R.Function c comments at is_private) i = (tt, λ head h. (tt, λ ns k. (λ n p a. (λ e. i, (a, λ b j. tt)), tt)))
   table R.FunctionHead i = λ n at a. (λ m p b l q c. (λ e. c, tt), either_of G (is_name n) _ _ (λ e. a, tt) tt)
   table (R.ParameterList f) i = λ v. parameters G f v
   table (R.Parameters parts f before) i = λ v. parameter G parts f before v

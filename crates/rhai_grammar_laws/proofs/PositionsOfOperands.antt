@@ -9,12 +9,10 @@ use Rattle.rhai_grammar.specs.declared.role.Calling.TheVariants as calls_by
 use Rattle.rhai_grammar.specs.declared.role.ItemRole.TheVariants as place
 use Rattle.rhai_grammar.specs.declared.role.Linking.TheVariants as link
 use Rattle.rhai_grammar.specs.declared.role.OperandStart.TheVariants as first
-use Rattle.rhai_grammar.specs.Prelude.{Lexeme, Position, Context, Live, Text, text_of, Node}
-use Rattle.rhai_grammar.specs.Prelude.{Nodes, Properties, may_be_value, KeyRole}
-use Rattle.rhai_grammar.specs.Prelude.{FieldsEnd, AKey, NoKey, LinkSpot, is_this}
-use Rattle.rhai_grammar.specs.Prelude.{MemberRole, AMember, NoMember, Follower, Operator, Unknown, Other}
-use Rattle.rhai_grammar.specs.Prelude.{may_be_closure}
-use Rattle.rhai_grammar.specs.Prelude.{made_block}
+use Rattle.rhai_grammar.specs.Prelude.{Lexeme, Position, Context, Live, Text, text_of, Node, Nodes, Properties}
+use Rattle.rhai_grammar.specs.Prelude.{may_be_value, KeyRole, FieldsEnd, AKey, NoKey, LinkSpot, is_this, MemberRole}
+use Rattle.rhai_grammar.specs.Prelude.{AMember, NoMember, Follower, Operator, may_be_closure}
+use Rattle.rhai_grammar.specs.Prelude.{made_block, with_node, qualified, bracket_link, member_link}
 use Rattle.rhai_grammar.specs.declared.list.AfterPart.{AfterPart}
 use Rattle.rhai_grammar.specs.declared.list.CommaList.{CommaList}
 use Rattle.rhai_grammar.specs.declared.role.Beginning.{Beginning}
@@ -27,9 +25,7 @@ use Rattle.rhai_grammar_reading.specs.Reading as R
 use Rattle.rhai_grammar_reading.specs.Reading.{Goal, Val}
 use Rattle.rhai_grammar.specs.Productions.{Production}
 use Rattle.rhai_grammar.specs.Rules as P
-use Rattle.rhai_grammar.specs.Rules.{production}
 use Rattle.rhai_lower.specs.Nodes.{block_start}
-use Rattle.rhai_grammar.specs.Prelude.{with_node, qualified, bracket_link, member_link}
 use Rattle.rhai_grammar.specs.Operators.{joining}
 use Rattle.rhai_grammar.specs.Signs.{effect, plain_sign}
 use Rattle.rhai_grammar.proofs.PositionTrees as T
@@ -144,22 +140,11 @@ module _ (G : Position → Type 0) where
 
   pub operand : (c : Context) (w : Live) (v : Beginning) → AllowsAs (Placed G) (P.operand_by c w v)
   operand c w begin.Sign = λ n at a. (λ e. a, (tt, λ x h. (λ e. a, T.sign G (effect n) (plain_sign n) at x a h)))
-  operand c w _ = (
-    tt,
-    λ x h. (
-      h,
-      λ y k. (
-        tt,
-        λ ls j.
-            (T.of_module G c w y k, T.chains G y ls k j),
-      ),
-    ),
-  )
+  operand c w _ = (tt, λ x h. (h, λ y k. (tt, λ ls j. (T.of_module G c w y k, T.chains G y ls k j))))
 
   pub right : (c : Context) (w : Live) (v : OperandStart) → AllowsAs (Placed G) (P.right_by c w v)
   right c w first.Omitted = λ at a. a
-  right c w first.Jump = (tt, λ f h. h)
-  right c w first.Written = (tt, λ x h. h)
+  right c w _ = (tt, λ f h. h)
 
   pub primary : (c : Context) (w : Live) (v : Beginning) → AllowsAs (Placed G) (P.primary_by c w v)
   primary c w begin.Value = λ n at a. T.value G n at a
@@ -187,23 +172,12 @@ module _ (G : Position → Type 0) where
   called c w name q v g = given c w name false v g
 
   pub call_of : (c : Context) (w : Live) (x : Node) → Placed G x → AllowsAs (Placed G) (P.call_of c w x)
-  call_of c w x h = (
-    (T.position G x h, λ call k. (T.of_module G c w x h, T.position G x h)),
-    h,
-  )
+  call_of c w x h = ((T.position G x h, λ call k. (T.of_module G c w x h, T.position G x h)), h)
 
   pub dotted : (w : Live) (spot : LinkSpot) (t : Lexeme) (at : Position) (v : MemberRole) → G at
       → AllLinks G spot.before → AllowsAs (AllLinks G) (P.dotted_by w spot t at v)
-  dotted w spot t at AMember a g = (
-    λ e. a,
-    (
-      tt,
-      λ x h. (
-        T.joined_links G spot.before (member_link t at x ∷ []) g ((a, h), tt),
-        λ ls k. k,
-      ),
-    ),
-  )
+  dotted w spot t at AMember a g =
+      (λ e. a, (tt, λ x h. (T.joined_links G spot.before (member_link t at x ∷ []) g ((a, h), tt), λ ls k. k)))
   dotted w spot t at (NoMember why) a g = tt
 
   pub links : (w : Live) (spot : LinkSpot) (v : Linking) → AllLinks G spot.before
@@ -242,8 +216,7 @@ module _ (G : Position → Type 0) where
 
   pub follower : (v : Follower) → AllowsIn (P.follower_by v)
   follower (Operator n right) = tt
-  follower (Unknown t) = tt
-  follower Other = tt
+  follower _ = tt
 
   pub binary : (c : Context) (w : Live) (at : Position) (parent : ℕ) (lhs : Node) (v : Option (ℕ × Bool)) → G at
       → Placed G lhs → AllowsAs (Placed G) (P.binary_of c w at parent lhs v)

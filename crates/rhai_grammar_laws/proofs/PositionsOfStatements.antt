@@ -10,9 +10,7 @@ use Rattle.rhai_grammar.specs.declared.role.Bars.TheVariants as bars
 use Rattle.rhai_grammar.specs.declared.role.Calling.TheVariants as calls_by
 use Rattle.rhai_grammar.specs.declared.role.ItemRole.TheVariants as place
 use Rattle.rhai_grammar.specs.declared.role.StatementStart.TheVariants as start
-use Rattle.rhai_grammar.specs.Prelude.{Position, Context, Live, Text}
-use Rattle.rhai_grammar.specs.Prelude.{ends_itself, with_kept}
-use Rattle.rhai_grammar.specs.Prelude.{Comment, Collected, Use}
+use Rattle.rhai_grammar.specs.Prelude.{Position, Context, Live, Text, ends_itself, with_kept, Comment, Collected, Use}
 use Rattle.rhai_grammar.specs.declared.role.AfterStatement.{AfterStatement}
 use Rattle.rhai_grammar.specs.declared.role.Closing.{Closing}
 use Rattle.rhai_grammar.specs.declared.role.StatementRole.{StatementRole}
@@ -25,11 +23,9 @@ use Rattle.rhai_grammar.specs.declared.role.ItemRole.{ItemRole}
 use Rattle.rhai_grammar.specs.declared.role.StatementStart.{StatementStart}
 use Rattle.rhai_grammar.specs.Productions.{Production}
 use Rattle.rhai_grammar.specs.Rules as P
-use Rattle.rhai_grammar.specs.Rules.{production}
-use Rattle.rhai_lower.specs.Nodes.{block_start}
 use Rattle.rhai_grammar.proofs.PositionSteps.{AllUses}
 use Rattle.rhai_grammar.proofs.PositionTrees as T
-use Rattle.rhai_grammar.proofs.PositionTrees.{AllLinks, AllPlaced, Placed}
+use Rattle.rhai_grammar.proofs.PositionTrees.{Placed}
 use Rattle.rhai_grammar_laws.proofs.PositionsOfOperands.{AllowsAs, AllowsIn, BlockAt, either_of, parted}
 
 module _ (G : Position → Type 0) where
@@ -46,25 +42,22 @@ module _ (G : Position → Type 0) where
 
   pub statement : (c : Context) (w : Live) (v : StatementStart) → AllowsAs G (λ f. BlockAt G f.0) (P.statement_by c w v)
   statement c w start.Empty = λ n at a. a
-  statement c w (start.Construct kind) = λ n at a. (λ e. a, (λ e. a, (a, λ f h. h)))
   statement c w start.Let = λ n at a. (λ e. a, (a, λ f h. h))
   statement c w start.Const = λ n at a. (λ e. a, (a, λ f h. h))
   statement c w start.Return = λ n at a. (a, λ x h. a)
   statement c w start.Throw = λ n at a. (a, λ x h. a)
   statement c w start.Break = λ n at a. (λ e. a, (a, λ x h. a))
   statement c w start.Continue = λ n at a. (λ e. a, a)
-  statement c w start.Import = λ n at a. (λ e. a, (λ e. a, (a, λ f h. h)))
-  statement c w start.Export = λ n at a. (λ e. a, (λ e. a, (a, λ f h. h)))
   statement c w start.Function = λ n at a. ((a, a), λ f h. h)
   statement c w start.Private = λ n at a m p b. ((a, b), λ f h. h)
   statement c w start.Comment = λ n at a. (λ e. a, (tt, λ comments h v. documented c w comments at v a))
   statement c w start.Expression = λ at a. (λ e. a, (tt, λ f h. h))
+  statement c w _ = λ n at a. (λ e. a, (λ e. a, (a, λ f h. h)))
 
   pub separated : (closing : Closing) (c : Context) (w : Live) (fs : node.Statements) (v : AfterStatement)
       → AllowsIn G (P.separated closing c w fs v)
   separated closing c w fs ends.SemiColon = λ n at a. (tt, λ r h. tt)
-  separated closing c w fs ends.Close = tt
-  separated closing c w fs ends.Nothing = tt
+  separated closing c w fs _ = tt
 
   pub after_one : (closing : Closing) (c : Context) (w : Live) (fs : node.Statements) (s : Bool)
       → AllowsIn G (P.after_one closing c w fs s)
@@ -73,9 +66,8 @@ module _ (G : Position → Type 0) where
 
   pub statements : (closing : Closing) (c : Context) (w : Live) (fs : node.Statements) (v : StatementRole)
       → AllowsIn G (P.statements closing c w fs v)
-  statements closing c w fs stands.Close = tt
   statements closing c w fs stands.Statement = (tt, λ f h. after_one closing c f.1 (with_kept fs f.0) (ends_itself f.0))
-  statements closing c w fs stands.Nothing = tt
+  statements closing c w fs _ = tt
 
   pub inside : (c : Context) (w : Live) (s : Bool) → AllowsIn G (P.inside_by c w s)
   inside c w true = (tt, λ f h. tt)
@@ -108,8 +100,7 @@ module _ (G : Position → Type 0) where
   pub parameters : (f : Text) (v : Calling) → AllowsIn G (P.parameters_by f v)
   parameters f calls_by.Pair = λ n at a. tt
   parameters f calls_by.List = λ n at a. (tt, λ r h. tt)
-  parameters f calls_by.Bang = tt
-  parameters f calls_by.Nothing = tt
+  parameters f _ = tt
 
   pub parameter : (parts : CommaList) (f : Text) (before : List Text) (v : ItemRole)
       → AllowsIn G (P.parameter_by parts f before v)
@@ -125,14 +116,8 @@ module _ (G : Position → Type 0) where
 
   pub closure_of : (c : Context) (w : Live) (at : Position) (names : List Text) → G at
       → AllowsAs G (Placed G) (P.closure_of c w at names)
-  closure_of c w at names g = (
-    λ e. g,
-    (
-      tt,
-      λ f us n u.
-          captured (Placed G) us c w _ u (g, T.closure G at n us names w g),
-    ),
-  )
+  closure_of c w at names g =
+      (λ e. g, (tt, λ f us n u. captured (Placed G) us c w _ u (g, T.closure G at n us names w g)))
 
   pub closure : (c : Context) (w : Live) (at : Position) (v : Bars) → G at
       → AllowsAs G (Placed G) (P.closure_by c w at v)

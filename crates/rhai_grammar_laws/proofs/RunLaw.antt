@@ -5,15 +5,13 @@ use Rattle.rhai_grammar.specs.Prelude.{Lexeme, Position, Item, Point, past, code
 use Rattle.rhai_grammar.specs.Prelude.{may_raise, level_up, position_of, Demands, Met, verdict, Fine, Wrong, Otherwise}
 use Rattle.rhai_grammar.specs.Prelude.{Verdict, follower_of, Follower, Operator, Unknown, Other, operator_tree}
 use Rattle.rhai_grammar.specs.Causes as cause
-use Rattle.rhai_grammar.specs.Strengths.{is_operator, strength}
+use Rattle.rhai_grammar.specs.Strengths.{is_operator, strength, continues}
 use Rattle.rhai_grammar.specs.Verdicts.{operator_known, known_follower, run_ends, ended_follower, raise_due}
 use Rattle.rhai_grammar.specs.declared.filter.ExprFilter.{ExprFilter}
-use Rattle.rhai_grammar.specs.Strengths.{continues}
 use Rattle.rhai_grammar_reading.specs.Reading.{In, BinaryOp, NextOperator}
 use Rattle.rhai_grammar_reading.proofs.Looks.{op_at, operator_in, fine}
 use Rattle.rhai_grammar_reading.proofs.Strengths.{Sensible, sensible, next_continues, right_is, left_is, outer}
-use Rattle.rhai_grammar_reading.proofs.Strengths.{goes_operator}
-use Rattle.rhai_grammar_reading.proofs.Strengths.{true_not}
+use Rattle.rhai_grammar_reading.proofs.Strengths.{goes_operator, true_not}
 use Rattle.rhai_grammar.specs.Rules as P
 use Rattle.rhai_grammar.specs.Rules.{production}
 use Rattle.rhai_grammar.specs.Forms.{Form, Filled, form, given, any, by_next, at_next, must, part, demands, demanded}
@@ -57,13 +55,11 @@ op_is : (fo : Follower) (op : ℕ × Bool) → Some op ≡ operator_in fo
     → (is_operator fo ≡ true) × (strength fo ≡ op.0) × ((p : ℕ) → next_continues p fo ≡ continues p op.0 op.1)
 op_is (Operator n right) op e = let d : (n, right) ≡ op = cc in
     (refl, ap (λ o. o.0) d, λ p. ap (λ o. continues p o.0 o.1) d)
-op_is (Unknown t) op e = absurd cc
-op_is Other op e = absurd cc
+op_is _ op e = absurd cc
 
 none_continues : (fo : Follower) (p : ℕ) → None ≡ operator_in fo → next_continues p fo ≡ false
 none_continues (Operator n right) p e = absurd cc
-none_continues (Unknown t) p e = refl
-none_continues Other p e = refl
+none_continues _ p e = refl
 
 -- ---- strengths
 

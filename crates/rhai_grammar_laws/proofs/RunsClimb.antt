@@ -4,10 +4,9 @@ use Rattle.rhai_grammar.specs.Prelude.{Lexeme, Position, Item, Point, past, code
 use Rattle.rhai_grammar.specs.Prelude.{position_of, Demands, ◌▸◌, Test, Next, Met, verdict, Fine, follower_of, Follower}
 use Rattle.rhai_grammar.specs.Prelude.{Operator, Unknown, Other, boolean_holds, mismatched}
 use Rattle.rhai_grammar.specs.Causes as cause
-use Rattle.rhai_grammar.specs.Strengths.{is_operator, strength, left_of}
+use Rattle.rhai_grammar.specs.Strengths.{is_operator, strength, left_of, continues}
 use Rattle.rhai_grammar.specs.Verdicts.{operator_known, known_follower, run_ends, ended_follower, raise_due}
 use Rattle.rhai_grammar.specs.declared.filter.ExprFilter.{ExprFilter}
-use Rattle.rhai_grammar.specs.Strengths.{continues}
 use Rattle.rhai_grammar_reading.specs.Reading.{In, BinaryOp, NextOperator}
 use Rattle.rhai_grammar_reading.proofs.Looks.{op_at, pos_at, operator_in, fine, or_wrong}
 use Rattle.rhai_grammar_reading.proofs.Strengths.{sensible, next_continues, right_is, left_is, left_down, outer}
@@ -29,9 +28,8 @@ Shut {filter = filter} (binary op at l r) o = (next_continues (strength (followe
     ≡ false) × Shut r o
 
 ended_none : (fo : Follower) (p : ℕ) → ended_follower fo ≡ Fine → next_continues p fo ≡ false
-ended_none (Operator n right) p e = absurd cc
-ended_none (Unknown t) p e = absurd cc
 ended_none Other p e = refl
+ended_none _ p e = absurd cc
 
 shut_none : {filter : ExprFilter} {w : Live} {first begins c : Context} {side : Side} {p : Position}
     {t : Option Lexeme} {x : Node}
@@ -69,9 +67,8 @@ record FitsHere {D : Type 0} (on : D → Demands → Demands) (s : Point) : Type
 next_by : (filter : ExprFilter) (fo : Follower) (s : Point) → known_follower fo ≡ Fine
     → FitsHere (λ (f : Filled production (NextOperator filter) (P.follower_by fo) (operator_in fo)) k. demanded
     production f k) s
-next_by filter (Operator n right) s e = record { it = given; fits = λ k t m. m }
 next_by filter (Unknown t) s e = absurd cc
-next_by filter Other s e = record { it = given; fits = λ k t m. m }
+next_by filter _ s e = record { it = given; fits = λ k t m. m }
 
 next_form : (filter : ExprFilter) (s : Point) → verdict (operator_known filter) (op_at s) ≡ Fine
     → FitsHere (λ (f : Form production (NextOperator filter) (operator_in (follower_of filter (op_at s)))) k.
@@ -132,8 +129,7 @@ on_by : (c : Context) (w : Live) (at : Position) (parent : ℕ) (lhs z : Node) (
     × ((k : Demands) (t : Point) → Met (demanded production f k) s t → Met (demanded production g k) s t)
 on_by c w at parent lhs z (Operator n right) s is e f =
     on_if c w at parent lhs z (n, right) (continues parent n right) s e f
-on_by c w at parent lhs z (Unknown t) s is e f = absurd cc
-on_by c w at parent lhs z Other s is e f = absurd cc
+on_by c w at parent lhs z _ s is e f = absurd cc
 
 on_form : (c : Context) (w : Live) (at : Position) (parent : ℕ) (lhs z : Node) (s : Point)
     → verdict (operator_known c.filter) (op_at s) ≡ Fine

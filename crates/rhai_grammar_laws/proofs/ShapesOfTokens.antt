@@ -6,9 +6,8 @@ use Rattle.rhai_grammar_reading.specs.Reading as R
 use Rattle.rhai_grammar_reading.specs.Reading.{Goal, Val}
 use Rattle.rhai_grammar.specs.Productions.{Production}
 use Rattle.rhai_grammar.specs.Rules.{production}
-use Rattle.rhai_grammar.specs.Forms.{Form, Filled, given, of_kind, any, if_so, if_not, by_next, at_next, must, checked, knows}
-use Rattle.rhai_grammar.specs.Forms.{adds}
-use Rattle.rhai_grammar.specs.Forms.{uses, captures, part, literal, apart, in_text, form}
+use Rattle.rhai_grammar.specs.Forms.{Form, Filled, given, of_kind, any, if_so, if_not, by_next, at_next, must, checked}
+use Rattle.rhai_grammar.specs.Forms.{knows, adds, uses, captures, part, literal, apart, in_text, form}
 use Rattle.rhai_grammar_laws.specs.Shaped.{Alike, AlikeIn, lexemes}
 use Rattle.rhai_grammar_laws.specs.ChainForms.{AllAlike, Piece, as_pieces, piece, pieces, pieces_in, token}
 
@@ -90,8 +89,7 @@ part_tokens _ x f inside e = sym (append-nil (lexemes (spelling production f)))
 part_and_rest : (a b : List Taken) (ps qs : List Piece) → lexemes a ≡ of_pieces ps → lexemes b ≡ of_pieces qs
     → lexemes (a ++ b) ≡ of_pieces (ps ++ qs)
 part_and_rest a b ps qs e f =
-    lexemes_append a b ∙ both_same (lexemes a) (lexemes b) (of_pieces ps) (of_pieces qs) e f
-    ∙ sym (pieces_append ps qs)
+    lexemes_append a b ∙ both_same (lexemes a) (lexemes b) (of_pieces ps) (of_pieces qs) e f ∙ sym (pieces_append ps qs)
 
 mutual
   -- a form has the tokens of its pieces

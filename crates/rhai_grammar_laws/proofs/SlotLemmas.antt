@@ -206,18 +206,14 @@ documented c w comments at _ = tt
 statement : (c : Context) (w : Live) (v : StatementStart) → Always KeepsRight (λ f. KeptSlots w f.1) (P.statement_by c w v)
 statement c w start.Empty = λ l at. same w
 statement c w (start.Construct kind) = λ l at f h. same w
-statement c w start.Let = λ l at f h. h
-statement c w start.Const = λ l at f h. h
 statement c w start.Return = λ l at x h. same w
 statement c w start.Throw = λ l at x h. same w
 statement c w start.Break = λ l at x h. same w
 statement c w start.Continue = λ l at. same w
-statement c w start.Import = λ l at f h. h
-statement c w start.Export = λ l at f h. h
-statement c w start.Function = λ l at f h. h
 statement c w start.Private = λ l at m p f h. h
 statement c w start.Comment = λ l at comments h v. documented c w comments at v
 statement c w start.Expression = λ at f h. same w
+statement c w _ = λ l at f h. h
 
 separated : (closing : Closing) (c : Context) (u w : Live) (fs : node.Statements) (v : AfterStatement) → KeptSlots u w
     → Always KeepsRight (λ r. KeptSlots u r.1) (P.separated closing c w fs v)
@@ -233,8 +229,7 @@ after_one closing c u w fs false k = λ v. separated closing c u w fs v k
 statements : (closing : Closing) (c : Context) (w : Live) (fs : node.Statements) (v : StatementRole)
     → Always KeepsRight (λ r. KeptSlots w r.1) (P.statements closing c w fs v)
 statements closing c w fs stands.Close = same w
-statements closing c w fs stands.Statement =
-    λ f h. after_one closing c w f.1 (with_kept fs f.0) (ends_itself f.0) h
+statements closing c w fs stands.Statement = λ f h. after_one closing c w f.1 (with_kept fs f.0) (ends_itself f.0) h
 statements closing c w fs stands.Nothing = tt
 
 table : (g : Goal) → Always KeepsRight (λ x. KeepsRight g x) (production g)
@@ -266,18 +261,15 @@ gives w v e h = ap₂ (λ s i. record { slots = s; block = w.block; imports = i 
 
 -- one more slot is above those that were there
 above : (slots more : List SlotValue) → take (length slots) (slots ++ more) ≡ slots
-above slots more =
-    take-append-le (length slots) slots more (omega arith) ∙ take_all (length slots) slots (omega arith)
+above slots more = take-append-le (length slots) slots more (omega arith) ∙ take_all (length slots) slots (omega arith)
 
 all_imports : (w : Live) → take (length w.imports) w.imports ≡ w.imports
 all_imports w = take_all (length w.imports) w.imports (omega arith)
 
 loop_above : (name : Text) (counter : Option Text) (w : Live)
     → ((loop_live name counter w).block ≡ length w.slots) × GivesBack w (loop_live name counter w)
-loop_above name None w = (
-  refl,
-  gives w (loop_live name None w) (above w.slots (fresh_slot name false ∷ [])) (all_imports w),
-)
+loop_above name None w =
+    (refl, gives w (loop_live name None w) (above w.slots (fresh_slot name false ∷ [])) (all_imports w))
 loop_above name (Some counter) w =
     let first = fresh_slot counter false ∷ [] in (
       refl,
@@ -308,8 +300,7 @@ catch_grows (Some name) w = omega (arith, length-append w.slots (fresh_slot name
 
 -- A block gives back what is live around it.
 closes : (w v : Live) → KeptSlots (in_block w) v → GivesBack w v
-closes w v k =
-    gives w v ((k.slots (omega arith)).0 ∙ take_all (length w.slots) w.slots (omega arith)) k.imports.0
+closes w v k = gives w v ((k.slots (omega arith)).0 ∙ take_all (length w.slots) w.slots (omega arith)) k.imports.0
 
 -- So it does what is live around something that gives back no less.
 closes_in : (w u v : Live) → GivesBack w u → length w.slots ≤ length u.slots → u.imports ≡ w.imports

@@ -7,7 +7,7 @@ use Rattle.rhai_grammar.specs.Prelude.{Use, Ended, Library, Fine, Wrong, Blames,
 use Rattle.rhai_grammar.specs.Prelude.{is_at_last, Point, past, next_at, adding, capturing, with_captured, apart}
 use Rattle.rhai_grammar.specs.Prelude.{closure_count, is_due, not_due, unexpected, StandsAtLast, as_literal}
 use Rattle.rhai_grammar.specs.declared.due.DueToken.TheVariants.{RightBrace}
-use Rattle.rhai_grammar_reading.specs.Reading.{Goal, Val, Prog, Ret, Fail, Take, run, run_from}
+use Rattle.rhai_grammar_reading.specs.Reading.{Goal, Val, Prog, Fail, run, run_from}
 use Rattle.rhai_grammar_reading.specs.Histories.{State, Outcome, Done, Refused, Unfinished, calls, recast}
 use Rattle.rhai_grammar.specs.Goals.{is_counted}
 use Rattle.rhai_grammar_reading.proofs.Joins.{cursor}
@@ -18,9 +18,8 @@ use Rattle.rhai_grammar_reading.proofs.Dues.{stands}
 use Rattle.rhai_grammar_reading.proofs.Paths.{Fits, Aim, To, Astray, Lost, Way, here, ◌▹◌, lost, literally}
 use Rattle.rhai_grammar_reading.proofs.Paths.{literally_lost}
 use Rattle.rhai_grammar_reading.proofs.Paths as W
-use Rattle.rhai_grammar_reading.proofs.Shows.{Histories, Shows, Tells, Ensures, fine, ill, lost_at, lost_to, ret}
-use Rattle.rhai_grammar_reading.proofs.Shows.{take, look}
-use Rattle.rhai_grammar_reading.proofs.Shows.{know, add, note, either, text_taken, text_at, called, called_apart}
+use Rattle.rhai_grammar_reading.proofs.Shows.{Histories, Shows, Tells, Ensures, fine, ill, lost_at, lost_to, ret, take}
+use Rattle.rhai_grammar_reading.proofs.Shows.{look, know, add, note, either, text_taken, text_at, called, called_apart}
 use Rattle.rhai_grammar_reading.proofs.Shows.{called_literal}
 use Rattle.rhai_grammar.specs.Productions.{Production, View, SeenBy, view}
 use Rattle.rhai_grammar.specs.Productions as S
@@ -230,8 +229,7 @@ module _ (rule : (g : Goal) → Production (Val g)) where
 
     added : (h : Goal) (x : Ended) (p : Production (Val h)) {q : Prog (Val h)} (s : Point) (b : Bool)
         → Goes call h p (adding x s) q (adding x s) b → Goes call h (S.adds x p) s q (adding x s) b
-    added h x p s b g =
-        then_ h p (S.adds x p) s (adding x s) (λ tree f. (F.adds f, λ k o w. tt ▹ w)) g
+    added h x p s b g = then_ h p (S.adds x p) s (adding x s) (λ tree f. (F.adds f, λ k o w. tt ▹ w)) g
 
     used : (h : Goal) (v : Lexeme → Bool) (ok : Library → Lexeme → Bool) (e : Refusal) (c : Library → Lexeme → Bool)
         (u : Use) (k : Bool → Production (Val h)) → is_at_last e.cause ≡ false → ((b : Bool) → Both call h (k b))

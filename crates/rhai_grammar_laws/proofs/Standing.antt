@@ -15,8 +15,7 @@ use Rattle.rhai_grammar.specs.Productions.{Production, SeenBy, view}
 use Rattle.rhai_grammar.specs.Productions as S
 use Rattle.rhai_grammar.specs.Forms as F
 use Rattle.rhai_grammar.specs.Forms.{given, of_kind, any, if_so, if_not, by_next, must, checked, knows, adds, uses}
-use Rattle.rhai_grammar.specs.Forms.{captures}
-use Rattle.rhai_grammar.specs.Forms.{part, literal, apart, in_text, form}
+use Rattle.rhai_grammar.specs.Forms.{captures, part, literal, apart, in_text, form}
 use Rattle.rhai_grammar_laws.proofs.TreesIf.{RightIf}
 
 -- ---- in which mode tokens are requested: what looks at the next token, and takes none, does so in code mode

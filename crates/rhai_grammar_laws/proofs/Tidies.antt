@@ -1,7 +1,6 @@
 -- What is refused by a test in a production has a position of its own. Each lemma is of the rule of its name, and
 -- goes by cases of what the next token decides.
 use Rattle.std.proofs.Common.{ℕ, Bool, true, false, Option, Some, None, List, [], ◌∷◌, refl, if◌then◌else◌}
-use Rattle.rhai_lower.specs.Nodes.{start_of, method_call, variable}
 use Rattle.rhai_lower.specs.Nodes as node
 use Rattle.rhai_grammar.specs.Switches.{arm_count}
 use Rattle.rhai_grammar.specs.declared.role.AfterStatement.TheVariants as ends
@@ -16,12 +15,11 @@ use Rattle.rhai_grammar.specs.declared.role.ItemRole.TheVariants as place
 use Rattle.rhai_grammar.specs.declared.role.Linking.TheVariants as link
 use Rattle.rhai_grammar.specs.declared.role.OperandStart.TheVariants as first
 use Rattle.rhai_grammar.specs.declared.role.StatementStart.TheVariants as start
-use Rattle.rhai_grammar.specs.Prelude.{Lexeme, Position, Context, Live, Text, text_of, Node}
-use Rattle.rhai_grammar.specs.Prelude.{is_constant_use, is_name, ends_itself, with_kept}
-use Rattle.rhai_grammar.specs.Prelude.{Nodes, Properties, has_single_blocks, may_be_value, KeyRole}
-use Rattle.rhai_grammar.specs.Prelude.{FieldsEnd, AKey, NoKey, LinkSpot, is_this}
-use Rattle.rhai_grammar.specs.Prelude.{MemberRole, AMember, NoMember, Follower, Operator, Unknown, Other}
-use Rattle.rhai_grammar.specs.Prelude.{may_be_closure, Comment, Collected, Use}
+use Rattle.rhai_grammar.specs.Prelude.{Lexeme, Position, Context, Live, Text, text_of, Node, is_constant_use, is_name}
+use Rattle.rhai_grammar.specs.Prelude.{ends_itself, with_kept, Nodes, Properties, has_single_blocks, may_be_value}
+use Rattle.rhai_grammar.specs.Prelude.{KeyRole, FieldsEnd, AKey, NoKey, LinkSpot, is_this, MemberRole, AMember}
+use Rattle.rhai_grammar.specs.Prelude.{NoMember, Follower, Operator, may_be_closure, Comment, Collected}
+use Rattle.rhai_grammar.specs.Prelude.{Use}
 use Rattle.rhai_grammar.specs.declared.role.AfterStatement.{AfterStatement}
 use Rattle.rhai_grammar.specs.declared.role.Closing.{Closing}
 use Rattle.rhai_grammar.specs.declared.role.StatementRole.{StatementRole}
@@ -59,8 +57,7 @@ operand c w _ = λ x y ls. (module_early c w y, tt)
 
 right : (c : Context) (w : Live) (v : OperandStart) → Tidy (P.right_by c w v)
 right c w first.Omitted = λ at. tt
-right c w first.Jump = λ f. tt
-right c w first.Written = λ x. tt
+right c w _ = λ f. tt
 
 primary : (c : Context) (w : Live) (v : Beginning) → Tidy (P.primary_by c w v)
 primary c w begin.Value = λ l at. tt
@@ -120,8 +117,7 @@ field c w opening before (Some k) = (refl, λ x v. parted lists.Map _ _ v (λ ns
 
 follower : (v : Follower) → Tidy (P.follower_by v)
 follower (Operator n right) = tt
-follower (Unknown t) = tt
-follower Other = tt
+follower _ = tt
 
 binary : (c : Context) (w : Live) (at : Position) (parent : ℕ) (lhs : Node) (v : Option (ℕ × Bool))
     → Tidy (P.binary_of c w at parent lhs v)
@@ -141,25 +137,22 @@ documented c w comments at _ = (refl, tt)
 
 statement : (c : Context) (w : Live) (v : StatementStart) → Tidy (P.statement_by c w v)
 statement c w start.Empty = λ l at. tt
-statement c w (start.Construct kind) = λ l at. (refl, (refl, λ f. tt))
 statement c w start.Let = λ l at. (refl, λ f. tt)
 statement c w start.Const = λ l at. (refl, λ f. tt)
 statement c w start.Return = λ l at x. tt
 statement c w start.Throw = λ l at x. tt
 statement c w start.Break = λ l at. (refl, λ x. tt)
 statement c w start.Continue = λ l at. (refl, tt)
-statement c w start.Import = λ l at. (refl, (refl, λ f. tt))
-statement c w start.Export = λ l at. (refl, (refl, λ f. tt))
 statement c w start.Function = λ l at f. tt
 statement c w start.Private = λ l at m p f. tt
 statement c w start.Comment = λ l at. (refl, λ comments v. documented c w comments at v)
 statement c w start.Expression = λ at. (refl, λ f. tt)
+statement c w _ = λ l at. (refl, (refl, λ f. tt))
 
 separated : (closing : Closing) (c : Context) (w : Live) (fs : node.Statements) (v : AfterStatement)
     → Tidy (P.separated closing c w fs v)
 separated closing c w fs ends.SemiColon = λ l at r. tt
-separated closing c w fs ends.Close = tt
-separated closing c w fs ends.Nothing = tt
+separated closing c w fs _ = tt
 
 after_one : (closing : Closing) (c : Context) (w : Live) (fs : node.Statements) (b : Bool)
     → Tidy (P.after_one closing c w fs b)
@@ -168,9 +161,8 @@ after_one closing c w fs false = λ v. separated closing c w fs v
 
 statements : (closing : Closing) (c : Context) (w : Live) (fs : node.Statements) (v : StatementRole)
     → Tidy (P.statements closing c w fs v)
-statements closing c w fs stands.Close = tt
 statements closing c w fs stands.Statement = λ f. after_one closing c f.1 (with_kept fs f.0) (ends_itself f.0)
-statements closing c w fs stands.Nothing = tt
+statements closing c w fs _ = tt
 
 inside : (c : Context) (w : Live) (b : Bool) → Tidy (P.inside_by c w b)
 inside c w true = λ f. tt
@@ -181,10 +173,9 @@ do_end_tidy None = tt
 do_end_tidy (Some b) = λ l at. tt
 
 arms : (c : Context) (w : Live) (before : Collected) (v : ArmRole) → Tidy (P.arms_by c w before v)
-arms c w before arm.Case = λ a r. tt
 arms c w before arm.Default = λ l at x. tt
-arms c w before arm.Close = λ l at. tt
 arms c w before arm.Nothing = tt
+arms c w before _ = λ a r. tt
 
 action : (c : Context) (w : Live) (b : Bool) → Tidy (P.action_by c w b)
 action c w true = λ x. tt
@@ -203,8 +194,7 @@ default_end default _ = (refl, tt)
 parameters : (function : Text) (v : Calling) → Tidy (P.parameters_by function v)
 parameters function calls_by.Pair = λ l at. tt
 parameters function calls_by.List = λ l at r. tt
-parameters function calls_by.Bang = tt
-parameters function calls_by.Nothing = tt
+parameters function _ = tt
 
 parameter : (parts : CommaList) (function : Text) (before : List Text) (v : ItemRole)
     → Tidy (P.parameter_by parts function before v)
@@ -246,13 +236,7 @@ tidy (R.In (R.Jump at) c w) = ((refl, λ x. tt), (refl, tt))
 tidy (R.NextKey c before) = λ v. key c before v
 tidy (R.NextOperator filter) = λ v. follower v
 tidy (R.In (R.BinaryOp at parent lhs) c w) = λ v. binary c w at parent lhs v
-tidy (R.In R.ExprStatement c w) = λ x. (
-  λ l at y. (
-    target_early (is_constant_use w.slots x) l at x,
-    tt,
-  ),
-  tt,
-)
+tidy (R.In R.ExprStatement c w) = λ x. (λ l at y. (target_early (is_constant_use w.slots x) l at x, tt), tt)
 tidy (R.In R.VarName c w) = (λ l at. (refl, tt), tt)
 tidy (R.In (R.Initializer at) c w) = (λ l p. (refl, λ x. tt), tt)
 tidy (R.In (R.Definition at k e) c w) = λ n x. tt
@@ -275,8 +259,7 @@ tidy R.LoopNames = (λ l at m p n q k r. (refl, λ x y z a. tt), λ l at m p. tt
 tidy R.Catch = λ l at. (λ m p n q k r. tt, tt)
 tidy R.DoEnd = λ v. do_end_tidy v
 tidy (R.In (R.Arms before) c w) = λ v. arms c w before v
-tidy (R.In (R.Arm before) c w) = λ xs guard l at does.
-    (fault_early (arm_count before.arms) before xs, λ end. tt)
+tidy (R.In (R.Arm before) c w) = λ xs guard l at does. (fault_early (arm_count before.arms) before xs, λ end. tt)
 tidy (R.In (R.DefaultArm default) c w) = (tt, λ l at does end close. tt)
 tidy (R.In (R.Cases before) c w) = λ x. (λ l at r. tt, tt)
 tidy (R.In R.Case c w) = λ x. tt

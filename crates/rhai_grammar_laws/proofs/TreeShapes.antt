@@ -4,7 +4,7 @@ use Rattle.std.specs.Prelude.{option_map}
 use Rattle.rhai_lower.specs.Nodes as node
 use Rattle.rhai_grammar.specs.Shapes as shape
 use Rattle.rhai_grammar.specs.Modules.{root_of}
-use Rattle.rhai_grammar.specs.Shapes.{node_shape, nodes_shape, optional_shape, properties_shape, statement_shape}
+use Rattle.rhai_grammar.specs.Shapes.{node_shape, nodes_shape, properties_shape, statement_shape}
 use Rattle.rhai_grammar.specs.Shapes.{statements_shape, block_shape}
 use Rattle.rhai_grammar.specs.Operators.{joining, joined_tree}
 use Rattle.rhai_grammar.specs.Signs.{effect, plain_sign, affected}

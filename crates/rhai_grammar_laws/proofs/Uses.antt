@@ -7,7 +7,7 @@ use Rattle.rhai_grammar.specs.Prelude.{with_node}
 use Rattle.rhai_grammar.specs.Trees.{method_called, node_count}
 use Rattle.rhai_grammar.specs.declared.list.CommaList.TheVariants as lists
 use Rattle.rhai_grammar_reading.specs.Reading as R
-use Rattle.rhai_grammar_reading.specs.Reading.{Goal, Script, Val}
+use Rattle.rhai_grammar_reading.specs.Reading.{Goal, Script}
 use Rattle.rhai_grammar.specs.Rules.{production}
 use Rattle.rhai_grammar.specs.Mentions.{is_read}
 use Rattle.rhai_grammar_laws.proofs.Constructs.{uses_of_construct}
@@ -23,10 +23,9 @@ use Rattle.rhai_grammar_laws.proofs.NumbersOfOperands.{is_true_of}
 use Rattle.rhai_grammar_laws.proofs.Passing.{leaves_its}
 use Rattle.rhai_grammar_laws.proofs.Using as U
 use Rattle.rhai_grammar_laws.proofs.Using.{Keeps}
-use Rattle.rhai_grammar_laws.proofs.UsesOfOperands.{Good, UsesRight, binary, by_either, call_of, call_path, called, element}
-use Rattle.rhai_grammar_laws.proofs.UsesOfOperands.{field, follower, key, links, operand, parted, path_excludes}
-use Rattle.rhai_grammar_laws.proofs.UsesOfOperands.{primary}
-use Rattle.rhai_grammar_laws.proofs.UsesOfOperands.{right}
+use Rattle.rhai_grammar_laws.proofs.UsesOfOperands.{Good, UsesRight, binary, by_either, call_of, call_path, called}
+use Rattle.rhai_grammar_laws.proofs.UsesOfOperands.{element, field, follower, key, links, operand, parted}
+use Rattle.rhai_grammar_laws.proofs.UsesOfOperands.{path_excludes, primary, right}
 use Rattle.rhai_grammar_laws.proofs.UsesOfStatements.{action, arm_end, arms, closure_by, default_end, do_end}
 use Rattle.rhai_grammar_laws.proofs.UsesOfStatements.{export, inside, parameter, parameters, statement, statements}
 
@@ -96,8 +95,7 @@ table (R.In R.Guard c w) n = (λ e. tt, λ e x m us h fault. (λ a. tt, λ a. h)
 table (R.In R.Iterated c w) n = (λ e. tt, λ e x m us h fault. h)
 table (R.In (R.Conditional at) c w) n = λ x m us h b o vs k e q ts j.
     same (sym (append_assoc (mentions x) (body_mentions b) (body_mentions e))) (both (both h k) j)
-table (R.In (R.Branch at) c w) n =
-    (λ e p m. (λ is q o room f r us h. same (made f) h, λ is b o us h. h), λ e. none)
+table (R.In (R.Branch at) c w) n = (λ e p m. (λ is q o room f r us h. same (made f) h, λ is b o us h. h), λ e. none)
 table R.LoopNames n = (λ e at m is p o c q r j k s ok a b d f g i. none, λ e is at m c p o. none)
 table R.Catch n = λ is at m. (λ e p o j q r k u v. none, λ e. none)
 table R.DoEnd n = λ v e. do_end v n
@@ -105,14 +103,10 @@ table (R.In (R.Arms before) c w) n = λ v e. arms c w before v n
 table (R.In (R.Arm before) c w) n = λ xs m us h guard o vs k is p q does r ts j fault end z ws a.
     let e = faultless before xs fault in
     (e, on (both (after (silent h (literals xs e)) k) j) (still a))
-table (R.In (R.DefaultArm default) c w) n = (
-  λ e. tt,
-  λ e is p m x o us h u q vs a v r ts b. on (on h (still a)) (still b),
-)
-table (R.In (R.Cases before) c w) n = λ x m us h. (
-  λ e p o xs q vs k. on (one_node before x h) k,
-  λ e. one_node before x h,
-)
+table (R.In (R.DefaultArm default) c w) n =
+    (λ e. tt, λ e is p m x o us h u q vs a v r ts b. on (on h (still a)) (still b))
+table (R.In (R.Cases before) c w) n =
+    λ x m us h. (λ e p o xs q vs k. on (one_node before x h) k, λ e. one_node before x h)
 table (R.In R.Case c w) n = λ x m us h. h
 table (R.In R.CaseGuard c w) n = (λ e p m x o us h. h, λ e. none)
 table (R.In R.Action c w) n = action c w (has_single_blocks c) n
@@ -120,10 +114,8 @@ table (R.ArmEnd itself) n = λ v e. arm_end itself v n
 table (R.DefaultEnd default) n = λ v e. default_end default v n
 table (R.Comments before) n = (λ e p m r o us u. u, λ e. none)
 table (R.In (R.FunctionStatement comments p at is_private) c w) n = λ ok room f m us h. (h, none)
-table (R.Function c comments at is_private) n = λ head m us u ns o vs v. (
-  λ e p q room b r ts h. after (on u (still v)) h,
-  λ e. tt,
-)
+table (R.Function c comments at is_private) n =
+    λ head m us u ns o vs v. (λ e p q room b r ts h. after (on u (still v)) h, λ e. tt)
 table R.FunctionHead n = λ is at m. (
   λ e p o i q r k. none,
   λ e. by_either R.FunctionHead (λ x next us. Only [] us) (is_name n) _ _ m [] [] (λ k. none) tt,

@@ -6,11 +6,10 @@ use Rattle.rhai_grammar.specs.Beginnings.{is_call}
 use Rattle.rhai_grammar.specs.CaseValues.{are_literal_values}
 use Rattle.rhai_grammar.specs.Prelude.{AKey, AMember, Context, Demands, Ended, FieldsEnd, Fine, Follower, Item, KeyRole}
 use Rattle.rhai_grammar.specs.Prelude.{Lexeme, Link, LinkSpot, Live, MemberRole, Met, Node, Nodes, NoKey, NoMember}
-use Rattle.rhai_grammar.specs.Prelude.{Operator, Other, Point, Position, Properties, Taken, Text, Unknown, bracket_link}
-use Rattle.rhai_grammar.specs.Prelude.{call_tree, calling, calls, code, effect, excludes_use, is_this}
-use Rattle.rhai_grammar.specs.Prelude.{is_variable, item, joining, linking, may_be_called, may_be_closure, may_be_value}
-use Rattle.rhai_grammar.specs.Prelude.{member_link, name_tree, next_at, no_nodes, plain_sign, qualifies}
-use Rattle.rhai_grammar.specs.Prelude.{text_of}
+use Rattle.rhai_grammar.specs.Prelude.{Point, Position, Properties, Taken, Text, Unknown, bracket_link}
+use Rattle.rhai_grammar.specs.Prelude.{call_tree, calling, calls, code, effect, excludes_use, is_this, is_variable}
+use Rattle.rhai_grammar.specs.Prelude.{item, joining, linking, may_be_called, may_be_closure, may_be_value, member_link}
+use Rattle.rhai_grammar.specs.Prelude.{name_tree, next_at, no_nodes, plain_sign, qualifies, text_of}
 use Rattle.rhai_grammar.specs.Trees.{function_called, named_by, node_count}
 use Rattle.rhai_grammar.specs.declared.list.AfterPart.{AfterPart}
 use Rattle.rhai_grammar.specs.declared.list.AfterPart.TheVariants as after
@@ -59,16 +58,10 @@ uncalled x next = if is_variable x && excludes_use next then [] else mentions x
 -- Where it begins at this token, what is given for a goal mentions what was before, and the names that are used in its
 -- form. An operand that is called is no use of a name.
 abbrev pub UsesRight : (g : Goal) → Val g → (first next : Lexeme) → List Text → Type 0
-UsesRight (R.In R.Whole c w) x l n us = Only (mentions x) us
-UsesRight (R.In R.Expression c w) x l n us = Only (mentions x) us
-UsesRight (R.In R.Operand c w) x l n us = Only (mentions x) us
-UsesRight (R.In (R.RightOperand place) c w) x l n us = Only (mentions x) us
 UsesRight (R.In R.Primary c w) x l n us = (is_variable x && excludes_use n) ≡ false → Only (mentions x) us
 UsesRight (R.In (R.Called at q) c w) x l n us = Only (all_mentions x.1) us
 UsesRight (R.Path w y) x l n us = Only [] us × (is_variable y ≡ true → Silent (mentions x))
 UsesRight (R.Links w spot) ls l n us = More (link_mentions spot.before) (link_mentions ls) us
-UsesRight (R.In (R.Index indexed) c w) x l n us = Only (mentions x) us
-UsesRight (R.In R.Member c w) x l n us = Only (mentions x) us
 UsesRight (R.In (R.Postfix y) c w) x l n us = More (uncalled y l) (mentions x) us
 UsesRight (R.In (R.Arguments at) c w) xs l n us = Only (all_mentions xs) us
 UsesRight (R.In (R.Items before) c w) xs l n us = More (all_mentions before) (all_mentions xs) us
@@ -78,7 +71,6 @@ UsesRight (R.In (R.Segments at before) c w) xs l n us = More (all_mentions befor
 UsesRight (R.In (R.Jump at) c w) x l n us = Only (optional_mentions x) us
 UsesRight (R.In (R.BinaryOp at parent lhs) c w) x l n us = More (mentions lhs) (mentions x) us
 UsesRight (R.In R.ExprStatement c w) f l n us = Only (statement_mentions f) us
-UsesRight (R.In (R.Initializer at) c w) x l n us = Only (mentions x) us
 UsesRight (R.In (R.Definition at constant exported) c w) f l n us = Only (statement_mentions f.0) us
 UsesRight (R.In (R.Import at) c w) f l n us = Only (statement_mentions f.0) us
 UsesRight (R.In (R.Export at) c w) f l n us = Only (statement_mentions f.0) us
@@ -89,22 +81,18 @@ UsesRight (R.In (R.Block at) c w) b l n us = Only (body_mentions b) us
 UsesRight (R.BlockEnd at fs) b l n us = More (statements_mentions fs) (body_mentions b) us
 UsesRight (R.In (R.Construct at kind) c w) f l n us = Only (statement_mentions f) us
 UsesRight (R.In (R.Braced at) c w) b l n us = Only (body_mentions b) us
-UsesRight (R.In R.Guard c w) x l n us = Only (mentions x) us
-UsesRight (R.In R.Iterated c w) x l n us = Only (mentions x) us
 UsesRight (R.In (R.Conditional at) c w) f l n us = Only (statement_mentions f) us
 UsesRight (R.In (R.Branch at) c w) b l n us = Only (body_mentions b) us
 UsesRight (R.In (R.Arms before) c w) x l n us = More (collected_mentions before) (collected_mentions x) us
 UsesRight (R.In (R.Arm before) c w) a l n us =
     (are_literal_values a.0 ≡ true) × Only (mentions a.1 ++ mentions a.2) us
-UsesRight (R.In (R.DefaultArm default) c w) x l n us = Only (mentions x) us
 UsesRight (R.In (R.Cases before) c w) xs l n us = More (all_mentions before) (all_mentions xs) us
-UsesRight (R.In R.Case c w) x l n us = Only (mentions x) us
-UsesRight (R.In R.CaseGuard c w) x l n us = Only (mentions x) us
 UsesRight (R.In R.Action c w) x l n us = Only (mentions x.0) us
 UsesRight (R.In (R.FunctionStatement comments first at is_private) c w) f l n us = Only (statement_mentions f.0) us
 UsesRight (R.Function c comments at is_private) x l n us = Only (body_mentions x.function.body) us
-UsesRight (R.In (R.Closure at by) c w) x l n us = Only (mentions x) us
 UsesRight (R.In R.ClosureBody c w) f l n us = Only (statement_mentions f) us
+UsesRight (R.In R.VarName c w) x l n us = Only [] us
+UsesRight (R.In what c w) x l n us = Only (mentions x) us
 UsesRight _ x l n us = Only [] us
 
 -- the body of a function reads these names
@@ -325,9 +313,8 @@ field c w opening before (Some k) n us q = λ room x m vs h v e.
 
 pub follower : (filter : ExprFilter) (v : Follower) (n : Lexeme)
     → KeepsIn (R.NextOperator filter) (λ x us. Only [] us) (P.follower_by v) n [] []
-follower filter (Operator k right) n = none
 follower filter (Unknown t) n = tt
-follower filter Other n = none
+follower filter _ n = none
 
 pub binary : (c : Context) (w : Live) (at : Position) (parent : ℕ) (lhs : Node) (v : Option (ℕ × Bool)) (n : Lexeme)
     (us : List Text) → Only [] us

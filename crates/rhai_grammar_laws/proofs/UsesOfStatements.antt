@@ -26,14 +26,12 @@ use Rattle.rhai_grammar.specs.declared.role.StatementRole.TheVariants as stands
 use Rattle.rhai_grammar.specs.declared.role.StatementStart.{StatementStart}
 use Rattle.rhai_grammar.specs.declared.role.StatementStart.TheVariants as start
 use Rattle.rhai_grammar_reading.specs.Reading as R
-use Rattle.rhai_grammar_reading.specs.Reading.{Goal, Val}
 use Rattle.rhai_grammar.specs.Productions.{Production}
 use Rattle.rhai_grammar.specs.Rules as P
 use Rattle.rhai_grammar.specs.Mentions.{is_read}
 use Rattle.rhai_grammar_laws.proofs.TreeMentions.{all_mentions, mentions, statement_mentions, statements_mentions}
 use Rattle.rhai_grammar_laws.proofs.MentionArms.{arm, collected_mentions, default_arm}
-use Rattle.rhai_grammar.proofs.MentionLemmas.{More, Only, after, among_append, none, on}
-use Rattle.rhai_grammar.proofs.MentionLemmas.{read_append, same, unchanged}
+use Rattle.rhai_grammar.proofs.MentionLemmas.{More, Only, after, among_append, none, on, read_append, same, unchanged}
 use Rattle.rhai_grammar_laws.proofs.MentionTrees.{made, one_statement, valued, variable}
 use Rattle.rhai_grammar_laws.proofs.Using.{free_name}
 use Rattle.rhai_grammar_laws.proofs.UsesOfOperands.{KeepsIn, by_either, parted}
@@ -60,16 +58,13 @@ statement c w start.Empty n = λ at m. none
 statement c w (start.Construct kind) n = λ at m a b f o us h. h
 statement c w start.Let n = λ at m room f o us h. h
 statement c w start.Const n = λ at m room f o us h. h
-statement c w start.Return n = λ at m x o us h. h
-statement c w start.Throw n = λ at m x o us h. h
 statement c w start.Break n = λ at m ok x o us h. h
 statement c w start.Continue n = λ at m ok. none
 statement c w start.Import n = λ at m a b f o us h. h
 statement c w start.Export n = λ at m ok room f o us h. h
-statement c w start.Function n = λ at m f o us h. h
 statement c w start.Private n = λ at m is p o f q us h. h
 statement c w start.Comment n = λ at m ok comments o us u v e. documented c w comments at v o us u
-statement c w start.Expression n = λ at room f m us h. h
+statement c w _ n = λ at m x o us h. h
 
 abbrev ListRight : node.Statements → node.Statements × Live → List Text → Type 0
 ListRight before fs us = More (statements_mentions before) (statements_mentions fs.0) us
@@ -137,8 +132,7 @@ pub parameters : (f : Text) (v : Calling) (n : Lexeme)
     → KeepsIn (R.ParameterList f) (λ x us. Only [] us) (P.parameters_by f v) n [] []
 parameters f calls_by.Pair n = λ at m. none
 parameters f calls_by.List n = λ at m r o us u. u
-parameters f calls_by.Bang n = tt
-parameters f calls_by.Nothing n = tt
+parameters f _ n = tt
 
 pub parameter : (parts : CommaList) (f : Text) (before : List Text) (v : ItemRole) (n : Lexeme)
     → KeepsIn (R.Parameters parts f before) (λ x us. Only [] us) (P.parameter_by parts f before v) n [] []
@@ -159,8 +153,7 @@ captured : (c : Context) (w : Live) (at : Position) (by : Bars) (Q : Node → Li
     → KeepsIn (R.In (R.Closure at by) c w) Q p n own (used_after w.slots us names)
     → KeepsIn (R.In (R.Closure at by) c w) Q (P.captured us c w p) n own names
 captured c w at by Q [] p n own names h = h
-captured c w at by Q (u ∷ us) p n own names h =
-    captured c w at by Q us p n own (names ++ free_name false u w.slots) h
+captured c w at by Q (u ∷ us) p n own names h = captured c w at by Q us p n own (names ++ free_name false u w.slots) h
 
 -- these names, and those that the captured nodes read
 handed : (name : Text) (slots : List SlotValue) (us : List Use) (names : List Text)

@@ -22,7 +22,7 @@ use Rattle.rhai_grammar.specs.declared.role.StatementStart.TheVariants as start
 use Rattle.rhai_grammar.specs.Prelude.{Lexeme, Position, Context, Live, Text, text_of, Node, is_name}
 use Rattle.rhai_grammar.specs.Prelude.{ends_itself, with_kept, Nodes, Properties, below_global, has_single_blocks}
 use Rattle.rhai_grammar.specs.Prelude.{may_be_value, KeyRole, FieldsEnd, AKey, NoKey, LinkSpot, is_this, MemberRole}
-use Rattle.rhai_grammar.specs.Prelude.{AMember, NoMember, excludes_use, Follower, Operator, Unknown, Other}
+use Rattle.rhai_grammar.specs.Prelude.{AMember, NoMember, excludes_use, Follower, Operator}
 use Rattle.rhai_grammar.specs.Prelude.{may_be_closure, Comment, Collected, SlotValue, in_function, Use}
 use Rattle.rhai_grammar.specs.declared.role.AfterStatement.{AfterStatement}
 use Rattle.rhai_grammar.specs.declared.role.Closing.{Closing}
@@ -129,8 +129,7 @@ module _ (within may : Bool) (slots : List SlotValue) where
 
   follower : (v : Follower) → Fits (P.follower_by v)
   follower (Operator n right) = tt
-  follower (Unknown t) = tt
-  follower Other = tt
+  follower _ = tt
 
   binary : (c : Context) (w : Live) (at : Position) (parent : ℕ) (lhs : Node) (v : Option (ℕ × Bool)) → On c
       → Fits (P.binary_of c w at parent lhs v)
@@ -150,25 +149,16 @@ module _ (within may : Bool) (slots : List SlotValue) where
 
   statement : (c : Context) (w : Live) (v : StatementStart) → On c → Fits (P.statement_by c w v)
   statement c w start.Empty o = λ l at. tt
-  statement c w (start.Construct kind) o = λ l at. (o, λ f. tt)
-  statement c w start.Let o = λ l at. (o, λ f. tt)
-  statement c w start.Const o = λ l at. (o, λ f. tt)
-  statement c w start.Return o = λ l at. (o, λ x. tt)
-  statement c w start.Throw o = λ l at. (o, λ x. tt)
-  statement c w start.Break o = λ l at. (o, λ x. tt)
   statement c w start.Continue o = λ l at. tt
-  statement c w start.Import o = λ l at. (o, λ f. tt)
-  statement c w start.Export o = λ l at. (o, λ f. tt)
-  statement c w start.Function o = λ l at. (o, λ f. tt)
   statement c w start.Private o = λ l at m p. (o, λ f. tt)
   statement c w start.Comment o = λ l at. (tt, λ comments v. documented c w comments at v o)
   statement c w start.Expression o = λ at. (o, λ f. tt)
+  statement c w _ o = λ l at. (o, λ f. tt)
 
   separated : (closing : Closing) (c : Context) (w : Live) (fs : node.Statements) (v : AfterStatement) → On c
       → Fits (P.separated closing c w fs v)
   separated closing c w fs ends.SemiColon o = λ l at. (o, λ r. tt)
-  separated closing c w fs ends.Close o = tt
-  separated closing c w fs ends.Nothing o = tt
+  separated closing c w fs _ o = tt
 
   after_one : (closing : Closing) (c : Context) (w : Live) (fs : node.Statements) (b : Bool) → On c
       → Fits (P.after_one closing c w fs b)
@@ -177,10 +167,9 @@ module _ (within may : Bool) (slots : List SlotValue) where
 
   statements : (closing : Closing) (c : Context) (w : Live) (fs : node.Statements) (v : StatementRole) → On c
       → Fits (P.statements closing c w fs v)
-  statements closing c w fs stands.Close o = tt
   statements closing c w fs stands.Statement o =
       (o, λ f. after_one closing c f.1 (with_kept fs f.0) (ends_itself f.0) o)
-  statements closing c w fs stands.Nothing o = tt
+  statements closing c w fs _ o = tt
 
   inside : (c : Context) (w : Live) (b : Bool) → On c → Fits (P.inside_by c w b)
   inside c w true o = (o, λ f. tt)
@@ -213,8 +202,7 @@ module _ (within may : Bool) (slots : List SlotValue) where
   parameters : (f : Text) (v : Calling) → Fits (P.parameters_by f v)
   parameters f calls_by.Pair = λ l at. tt
   parameters f calls_by.List = λ l at. (tt, λ r. tt)
-  parameters f calls_by.Bang = tt
-  parameters f calls_by.Nothing = tt
+  parameters f _ = tt
 
   parameter : (parts : CommaList) (f : Text) (before : List Text) (v : ItemRole)
       → Fits (P.parameter_by parts f before v)

@@ -386,8 +386,7 @@ closure_by : {c : Context} {w : Live} {at : Position} {b : Bars} {x : Node} (by 
     → uses_of production f ≡ ends_of (body_by by f).uses
     ++ (used_there w.slots (body_by by f).captured ++ IsEnd (Z.closure_by by f).ended ∷ [])
 closure_by bars.Pair f = closure_of [] f
-closure_by bars.List (D.part own list f) =
-    ap (λ xs. xs ++ uses_of production f) (nothing_in list tt) ∙ closure_of own f
+closure_by bars.List (D.part own list f) = ap (λ xs. xs ++ uses_of production f) (nothing_in list tt) ∙ closure_of own f
 
 closure : {c : Context} {w : Live} {at : Position} {by : Bars} {x : Node}
     (f : D.Form production (R.In (R.Closure at by) c w) x)

@@ -1,9 +1,9 @@
 -- A form fits wherever it is spelled. One induction over forms; no clause is one of a production.
 use Rattle.std.proofs.Common.{◌≡◌, Bool, List, [], ◌∷◌, ◌++◌, append-nil, append_assoc, refl, ap, ◌∙◌, sym, subst}
-use Rattle.rhai_grammar.specs.Prelude.{Lexeme, Sign, Position, Item, item, Mode, code, text, Taken, Point, Use, Ended}
-use Rattle.rhai_grammar.specs.Prelude.{Library, Verdict, Fine, verdict, Demands, Nothing, ◌▸◌, Tok, Ahead, Next, Met}
+use Rattle.rhai_grammar.specs.Prelude.{Lexeme, Position, Item, Mode, code, text, Taken, Point, Use, Ended}
+use Rattle.rhai_grammar.specs.Prelude.{Verdict, Fine, verdict, Demands, Nothing, Met}
 use Rattle.rhai_grammar.specs.Prelude.{Gives, leads, closure_count, past, next_at, adding, capturing, with_captured}
-use Rattle.rhai_grammar.specs.Prelude.{Tokens, later, is_due, not_due}
+use Rattle.rhai_grammar.specs.Prelude.{Tokens, is_due, not_due}
 use Rattle.rhai_grammar.specs.Delivered as M
 use Rattle.rhai_grammar.specs.Delivered.{ask}
 use Rattle.rhai_grammar.specs.declared.due.DueToken.TheVariants.{RightBrace}
@@ -32,8 +32,7 @@ record Alike (ts : List Taken) (s o : Point) : Type 0 where
 next_by : (ts : List Taken) (s o : Tokens) → InCode ts → Gives ts s → Gives ts o → ask code (leads ts o) ≡ ask code
     (leads ts s) → ask code o ≡ ask code s
 next_by [] s o c g h e = e
-next_by (k ∷ ts) s o c g h e =
-    subst (λ m. ask m o ≡ ask m s) c (h.0 ∙ sym g.0)
+next_by (k ∷ ts) s o c g h e = subst (λ m. ask m o ≡ ask m s) c (h.0 ∙ sym g.0)
 
 -- the next token is the same
 same_next : {ts : List Taken} {s o : Point} → InCode ts → Alike ts s o → next_at code o ≡ next_at code s
@@ -190,16 +189,16 @@ module _ (rule : (g : Goal) → Production (Val g)) where
         let us = D.spelling_in rule rest ++ ts in
         let r = again f Nothing us (begins_in rest ts c) s m.0 o m.1
         (grouped (D.spelling rule f) (D.spelling_in rule rest) ts a) in
-        let at_next : Alike us m.0 r.other = subst (λ p. Alike us p r.other) r.met r.alike in
-        stays (again_in rest k ts c m.0 t r.other m.2 at_next) (λ e q. (r.other, r.back r.other refl, q))
+        let so_far : Alike us m.0 r.other = subst (λ p. Alike us p r.other) r.met r.alike in
+        stays (again_in rest k ts c m.0 t r.other m.2 so_far) (λ e q. (r.other, r.back r.other refl, q))
     again_in (apart v us n f rest) k ts c s t o m a =
         let us = D.spelling_in rule rest ++ ts in
         let r = again f Nothing us (begins_in rest ts c) (M.apart s) m.0 (M.apart o) m.1
         (opened (grouped (D.spelling rule f) (D.spelling_in rule rest) ts a)) in
-        let at_next : Alike us m.0 r.other = subst (λ p. Alike us p r.other) r.met r.alike in
+        let so_far : Alike us m.0 r.other = subst (λ p. Alike us p r.other) r.met r.alike in
         stays (again_in rest k ts c (with_captured s.captured m.0) t (with_captured o.captured r.other) m.3
-        (closed s o a.captured at_next))
-        (λ e q. (r.other, r.back r.other refl, (ap closure_count here.library ∙ m.2.0, here.captured ∙ m.2.1), q))
+        (closed s o a.captured so_far))
+        (λ e q. (r.other, r.back r.other refl, (ap closure_count so_far.library ∙ m.2.0, so_far.captured ∙ m.2.1), q))
     again_in (in_text closing l at f) k ts c s t o m a =
         let n : next_at code o ≡ next_at code s = a.given.0 ∙ sym a.gives.0 in
         stays (again_in f k ts c (past text (past code s)) t (past text (past code o)) m.1.1.1.1

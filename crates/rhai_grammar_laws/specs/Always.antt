@@ -2,7 +2,7 @@
 use Rattle.std.specs.Prelude.{ℕ, Bool, List}
 use Rattle.rhai_grammar.specs.Prelude.{Lexeme, Position, Use}
 use Rattle.rhai_grammar.specs.Goals.{Goal, Val}
-use Rattle.rhai_grammar.specs.Productions.{Production, View, SeenBy}
+use Rattle.rhai_grammar.specs.Productions.{Production, SeenBy}
 use Rattle.rhai_grammar.specs.Productions as S
 
 -- `Right` holds of the tree of each part.

@@ -12,8 +12,7 @@ use Rattle.rhai_grammar.specs.Productions.{Production}
 use Rattle.rhai_grammar.specs.Rules as P
 use Rattle.rhai_grammar.specs.Rules.{production}
 use Rattle.rhai_grammar.specs.Forms.{Form, Filled, given, of_kind, any, if_so, if_not, by_next, at_next, must, checked}
-use Rattle.rhai_grammar.specs.Forms.{knows, adds}
-use Rattle.rhai_grammar.specs.Forms.{uses, captures, part, literal, apart, in_text, form}
+use Rattle.rhai_grammar.specs.Forms.{knows, adds, uses, captures, part, literal, apart, in_text, form}
 use Rattle.rhai_grammar_laws.specs.Shaped.{Alike, lexemes}
 
 -- ---- what is written in a form

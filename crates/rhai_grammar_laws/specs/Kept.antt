@@ -3,7 +3,7 @@
 use Rattle.std.specs.Prelude.{◌≡◌, ℕ, Bool, true, false, List, None}
 use Rattle.rhai_grammar.specs.Prelude.{Lexeme, Position, Use, Ended}
 use Rattle.rhai_grammar.specs.Goals.{Goal, Val}
-use Rattle.rhai_grammar.specs.Productions.{Production, View, SeenBy, view}
+use Rattle.rhai_grammar.specs.Productions.{Production, SeenBy, view}
 use Rattle.rhai_grammar.specs.Productions as S
 
 -- `Right` holds of the tree of each part, `Good` of each function that ends.

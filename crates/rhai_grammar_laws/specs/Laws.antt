@@ -5,7 +5,7 @@ use Rattle.rhai_grammar.specs.Contexts.{Context, Live}
 use Rattle.rhai_grammar.specs.Cursors.{Cursor}
 use Rattle.rhai_grammar.specs.Delivered.{Point, code}
 use Rattle.rhai_grammar.specs.Demands.{Met, Missed}
-use Rattle.rhai_grammar.specs.Promises.{IsWritten}
+use Rattle.rhai_grammar.specs.Promises.{IsWritten, ReadsWhole, Written, written, tree_of, Unwritten, unwritten}
 use Rattle.rhai_grammar.specs.Seen.{StandsAtLast}
 use Rattle.rhai_grammar.specs.declared.error.ParseError.{ParseError}
 use Rattle.rhai_grammar_reading.specs.Histories.{State, Done, Refused, Runs, calls}
@@ -15,7 +15,6 @@ use Rattle.rhai_grammar_reading.specs.Reading.{body}
 use Rattle.rhai_grammar_reading.specs.Running as running
 use Rattle.rhai_grammar_reading.specs.Running.{Gives, Progress, result_of}
 use Rattle.rhai_grammar.specs.Forms as derived
-use Rattle.rhai_grammar.specs.Promises.{ReadsWhole, Written, written, tree_of, Unwritten, unwritten}
 use Rattle.rhai_grammar.specs.Rules.{production}
 
 -- ---- sound and complete

@@ -121,8 +121,7 @@ pub record LinesOfChains : Type 0 where
       node.no_properties) (place 1 1)) (node.interpolated (node.one_node (node.string (codes "a") (place 1 9))
       (node.one_node (node.block_value (node.braces (node.one_statement (node.expression (variable (codes "b") None
       (place 1 13))) node.no_statements) (place 1 12) (place 1 14))) node.no_nodes)) (place 1 9)) (record {
-        negated =
-            false;
+        negated = false;
         terminating = true;
       }) (place 1 8)) []
   -- `` `a${b}c`[0]["x"].len() ``

@@ -9,8 +9,7 @@ use Rattle.rhai_grammar.specs.Operators.{operator_called}
 use Rattle.rhai_grammar.specs.Closures.{curry}
 use Rattle.rhai_grammar.specs.Trees.{method_called}
 use Rattle.rhai_grammar_laws.specs.Lines.{IsExpression, IsScript, Refuses, ended, expression, expression_by, function}
-use Rattle.rhai_grammar_laws.specs.Lines.{new_engine, script, script_by, variable}
-use Rattle.rhai_grammar_laws.specs.Lines.{no_closures, no_shadowing, strict}
+use Rattle.rhai_grammar_laws.specs.Lines.{new_engine, script, script_by, variable, no_closures, no_shadowing, strict}
 
 -- The column of an error counts from 1, as those of the tokens and of the end mark.
 pub record LinesOfClosures : Type 0 where
@@ -67,8 +66,7 @@ pub record LinesOfClosures : Type 0 where
       (node.expression (node.call (operator_called (Sign token.Plus)) (node.one_node (node.call (function
       (codes "print") false 1) (node.one_node (variable (codes "x") None (place 1 10)) node.no_nodes) (place 1 4))
       (node.one_node (node.dot (node.this (place 1 15)) (node.property (codes "y") (place 1 20)) (record {
-        negated =
-            false;
+        negated = false;
         terminating = false;
       }) (place 1 19)) node.no_nodes)) (place 1 13))) node.no_statements) (place 1 13)
       nowhere)) ∷ [])
@@ -107,8 +105,7 @@ pub record LinesOfClosures : Type 0 where
         number = None;
         name = codes "x";
         path = (codes "m", place 1 26) ∷ [];
-        module_index =
-            None;
+        module_index = None;
       }) (place 1 29))) node.no_statements)) ((ended None (codes "anon$0000000000000000") false [] []
       (node.braces (node.one_statement (node.import_statement (node.string (codes "a") (place 1 13)) (codes "m")
       (place 1 6)) node.no_statements) (place 1 4) (place 1 23))) ∷ [])

@@ -8,8 +8,7 @@ use Rattle.rhai_grammar.specs.Causes as cause
 use Rattle.rhai_grammar.specs.Operators.{operator_called}
 use Rattle.rhai_grammar.specs.Signs.{sign_called}
 use Rattle.rhai_grammar_laws.specs.Lines.{IsExpression, IsScript, Refuses, expression, new_engine, script, script_by}
-use Rattle.rhai_grammar_laws.specs.Lines.{variable}
-use Rattle.rhai_grammar_laws.specs.Lines.{no_shadowing}
+use Rattle.rhai_grammar_laws.specs.Lines.{variable, no_shadowing}
 
 -- The column of an error counts from 1, as those of the tokens and of the end mark.
 pub record LinesOfConstructs : Type 0 where
@@ -40,8 +39,7 @@ pub record LinesOfConstructs : Type 0 where
       (Sign token.LeftBrace, 11) ∷ (Sign token.RightBrace, 12) ∷ []) 13 (node.one_statement (node.if_statement
       (node.index (variable (codes "a") None (place 1 4)) (node.dot (node.integer (pos 0) (place 1 6)) (node.property
       (codes "b") (place 1 9)) (record { negated = false; terminating = false }) (place 1 8)) (record {
-        negated =
-            false;
+        negated = false;
         terminating = false;
       }) (place 1 5)) (node.braces node.no_statements (place 1 11) (place 1 12))
       (node.braces node.no_statements nowhere nowhere) (place 1 1)) node.no_statements) []

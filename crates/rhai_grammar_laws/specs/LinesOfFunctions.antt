@@ -8,8 +8,7 @@ use Rattle.rhai_grammar.specs.Causes as cause
 use Rattle.rhai_grammar.specs.Operators.{operator_called}
 use Rattle.rhai_grammar.specs.Trees.{method_called}
 use Rattle.rhai_grammar_laws.specs.Lines.{IsScript, Refuses, ended, expression, function, new_engine, script, script_by}
-use Rattle.rhai_grammar_laws.specs.Lines.{variable}
-use Rattle.rhai_grammar_laws.specs.Lines.{strict}
+use Rattle.rhai_grammar_laws.specs.Lines.{variable, strict}
 
 -- The column of an error counts from 1, as those of the tokens and of the end mark.
 pub record LinesOfFunctions : Type 0 where

@@ -9,9 +9,7 @@ use Rattle.rhai_grammar.specs.Causes as cause
 use Rattle.rhai_grammar.specs.Operators.{operator_called, contains_called}
 use Rattle.rhai_grammar.specs.Signs.{sign_called}
 use Rattle.rhai_grammar_laws.specs.Lines.{IsExpression, IsScript, Refuses, expression, expression_by, new_engine}
-use Rattle.rhai_grammar_laws.specs.Lines.{script}
-use Rattle.rhai_grammar_laws.specs.Lines.{script_by, variable}
-use Rattle.rhai_grammar_laws.specs.Lines.{no_blocks, no_loops}
+use Rattle.rhai_grammar_laws.specs.Lines.{script, script_by, variable, no_blocks, no_loops}
 
 -- The column of an error counts from 1, as those of the tokens and of the end mark.
 pub record LinesOfJumps : Type 0 where

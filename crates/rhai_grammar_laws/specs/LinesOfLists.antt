@@ -8,8 +8,7 @@ use Rattle.rhai_grammar.specs.Causes as cause
 use Rattle.rhai_grammar.specs.Operators.{operator_called, contains_called}
 use Rattle.rhai_grammar.specs.Signs.{sign_called}
 use Rattle.rhai_grammar_laws.specs.Lines.{IsExpression, Refuses, expression, expression_by, function, new_engine}
-use Rattle.rhai_grammar_laws.specs.Lines.{script}
-use Rattle.rhai_grammar_laws.specs.Lines.{variable}
+use Rattle.rhai_grammar_laws.specs.Lines.{script, variable}
 
 -- The column of an error counts from 1, as those of the tokens and of the end mark.
 pub record LinesOfLists : Type 0 where

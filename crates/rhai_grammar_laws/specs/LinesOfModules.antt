@@ -7,8 +7,7 @@ use Rattle.rhai_lower.specs.declared.token.Token.TheVariants as token
 use Rattle.rhai_grammar.specs.Causes as cause
 use Rattle.rhai_grammar.specs.Signs.{sign_called}
 use Rattle.rhai_grammar_laws.specs.Lines.{IsExpression, IsScript, Refuses, expression, expression_by, function}
-use Rattle.rhai_grammar_laws.specs.Lines.{new_engine, script, script_by, variable}
-use Rattle.rhai_grammar_laws.specs.Lines.{no_shadowing, strict}
+use Rattle.rhai_grammar_laws.specs.Lines.{new_engine, script, script_by, variable, no_shadowing, strict}
 
 -- The column of an error counts from 1, as those of the tokens and of the end mark.
 pub record LinesOfModules : Type 0 where
@@ -23,8 +22,7 @@ pub record LinesOfModules : Type 0 where
       (node.one_node (node.integer (pos 1) (place 1 1)) (node.one_node (node.block_value (node.braces
       (node.one_statement (node.return_statement (node.present (node.variable (record {
         number = None;
-        name = codes
-            "x";
+        name = codes "x";
         path = (codes "m", place 1 12) ∷ [];
         module_index = None;
       }) (place 1 15))) true (place 1 6))
@@ -34,8 +32,7 @@ pub record LinesOfModules : Type 0 where
       (Name (codes "m"), 6) ∷ (Sign token.DoubleColon, 7) ∷ (Name (codes "x"), 9) ∷ (Sign token.RightBrace, 10) ∷ [])
       11 (node.object_map (node.one_property (codes "m") (place 1 3) (node.variable (record {
         number = None;
-        name =
-            codes "x";
+        name = codes "x";
         path = (codes "m", place 1 6) ∷ [];
         module_index = None;
       }) (place 1 9)) node.no_properties)
@@ -66,8 +63,7 @@ pub record LinesOfModules : Type 0 where
         number = None;
         name = codes "x";
         path = (codes "m", place 1 1) ∷ [];
-        module_index =
-            None;
+        module_index = None;
       }) (place 1 4)) (node.index (node.property (codes "y") (place 1 7)) (node.dot (node.integer (pos 1)
       (place 1 10)) (node.property (codes "z") (place 1 13)) (record { negated = false; terminating = false })
       (place 1 12)) (record { negated = true; terminating = false }) (place 1 8)) (record {

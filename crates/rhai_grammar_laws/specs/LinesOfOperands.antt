@@ -8,9 +8,7 @@ use Rattle.rhai_grammar.specs.Causes as cause
 use Rattle.rhai_grammar.specs.Operators.{operator_called, contains_called}
 use Rattle.rhai_grammar.specs.Signs.{sign_called}
 use Rattle.rhai_grammar_laws.specs.Lines.{IsExpression, Refuses, expression, expression_by, function, new_engine}
-use Rattle.rhai_grammar_laws.specs.Lines.{script}
-use Rattle.rhai_grammar_laws.specs.Lines.{script_by, variable}
-use Rattle.rhai_grammar_laws.specs.Lines.{no_closures, strict, strict_no_shadowing}
+use Rattle.rhai_grammar_laws.specs.Lines.{script, script_by, variable, no_closures, strict, strict_no_shadowing}
 
 -- The column of an error counts from 1, as those of the tokens and of the end mark.
 pub record LinesOfOperands : Type 0 where
@@ -85,8 +83,7 @@ pub record LinesOfOperands : Type 0 where
         number = None;
         name = codes "x";
         path = (codes "n", place 1 1) ∷ [];
-        module_index =
-            None;
+        module_index = None;
       }) (place 1 4)) []
   -- `(g)(1)`
   pub read_14 : IsExpression ((Sign token.LeftParen, 1) ∷ (Name (codes "g"), 2) ∷ (Sign token.RightParen, 3) ∷

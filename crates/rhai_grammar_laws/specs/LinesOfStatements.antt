@@ -9,8 +9,7 @@ use Rattle.rhai_grammar.specs.Operators.{operator_called}
 use Rattle.rhai_grammar.specs.Signs.{sign_called}
 use Rattle.rhai_grammar.specs.Trees.{method_called}
 use Rattle.rhai_grammar_laws.specs.Lines.{IsScript, Refuses, expression, function, new_engine, script, script_by}
-use Rattle.rhai_grammar_laws.specs.Lines.{variable}
-use Rattle.rhai_grammar_laws.specs.Lines.{no_shadowing}
+use Rattle.rhai_grammar_laws.specs.Lines.{variable, no_shadowing}
 
 -- The column of an error counts from 1, as those of the tokens and of the end mark.
 pub record LinesOfStatements : Type 0 where
@@ -69,8 +68,7 @@ pub record LinesOfStatements : Type 0 where
       (node.dot (variable (codes "b") None (place 1 3)) (node.method_call (method_called (codes "f") false 0)
       node.no_nodes (place 1 5)) (record { negated = false; terminating = false }) (place 1 4)) (node.property
       (codes "c") (place 1 10)) (record { negated = false; terminating = false }) (place 1 9)) (record {
-        negated =
-            false;
+        negated = false;
         terminating = false;
       }) (place 1 2)) (node.integer (pos 1) (place 1 14)) (place 1 12)) node.no_statements)
       []

@@ -7,8 +7,7 @@ use Rattle.rhai_lower.specs.declared.token.Token.TheVariants as token
 use Rattle.rhai_grammar.specs.Causes as cause
 use Rattle.rhai_grammar.specs.Operators.{operator_called}
 use Rattle.rhai_grammar_laws.specs.Lines.{IsExpression, IsScript, Refuses, expression_by, new_engine, script, script_by}
-use Rattle.rhai_grammar_laws.specs.Lines.{expression, variable}
-use Rattle.rhai_grammar_laws.specs.Lines.{no_shadowing}
+use Rattle.rhai_grammar_laws.specs.Lines.{expression, variable, no_shadowing}
 
 -- The column of an error counts from 1, as those of the tokens and of the end mark.
 pub record LinesOfSwitches : Type 0 where

@@ -6,12 +6,11 @@ use Rattle.rhai_grammar.specs.Prelude.{is_variable, AllWellNumbered, WellNumbere
 use Rattle.rhai_grammar.specs.Prelude.{WellNumberedStatement, WellNumberedStatements, names_in, ended_closure}
 use Rattle.rhai_grammar.specs.Prelude.{made_block, names_of}
 use Rattle.rhai_grammar.specs.TreeNumbers.{WellNumberedProperties, WellNumberedOptional, WellNumberedFunction}
-use Rattle.rhai_grammar.specs.TreeNumbers.{WellNumberedLibrary, names_after, names_after_all}
+use Rattle.rhai_grammar.specs.TreeNumbers.{WellNumberedLibrary, names_after, names_after_all, AllLinks, IsCollected}
 use Rattle.rhai_grammar.specs.Demands.{Nothing, Met}
 use Rattle.rhai_grammar.specs.Delivered.{Point}
 use Rattle.rhai_grammar.specs.declared.role.Bars.{Bars}
 use Rattle.rhai_grammar.specs.declared.role.Bars.TheVariants as bars
-use Rattle.rhai_grammar.specs.TreeNumbers.{AllLinks, IsCollected}
 use Rattle.rhai_grammar_reading.specs.Reading as R
 use Rattle.rhai_grammar.specs.Goals.{In, Goal, Val, Whole, Script}
 use Rattle.rhai_grammar.specs.Rules.{production}
@@ -34,55 +33,44 @@ UnlessCalled ns x next = (is_variable x && excludes_use next) ≡ false → Well
 -- What holds of what is given for a goal, by the tokens at which it begins and that follow it. What is added to a list
 -- or a tree keeps that right.
 abbrev pub NumberedRight : (g : Goal) → Val g → (first next : Lexeme) → Type 0
-NumberedRight (R.In R.Whole context live) x l n = WellNumbered (names live) x
-NumberedRight (R.In R.Expression context live) x l n = WellNumbered (names live) x
-NumberedRight (R.In R.Operand context live) x l n = WellNumbered (names live) x
-NumberedRight (R.In (R.RightOperand place) context live) x l n = WellNumbered (names live) x
-NumberedRight (R.In R.Primary context live) x l n = UnlessCalled (names live) x n
-NumberedRight (R.In (R.Called at q) context live) x l n = AllWellNumbered (names live) x.1
-NumberedRight (R.Path live y) x l n = is_variable y ≡ true → WellNumbered (names live) x
-NumberedRight (R.Links live spot) ls l n = AllLinks (names live) spot.before → AllLinks (names live) ls
-NumberedRight (R.In (R.Index indexed) context live) x l n = WellNumbered (names live) x
-NumberedRight (R.In R.Member context live) x l n = WellNumbered (names live) x
-NumberedRight (R.In (R.Postfix y) context live) x l n = UnlessCalled (names live) y l → WellNumbered (names live) x
-NumberedRight (R.In (R.Arguments at) context live) xs l n = AllWellNumbered (names live) xs
-NumberedRight (R.In (R.Items before) context live) xs l n = AllWellNumbered (names live) before → AllWellNumbered (names live) xs
-NumberedRight (R.In (R.Elements at before) context live) xs l n = AllWellNumbered (names live) before → AllWellNumbered (names live) xs
-NumberedRight (R.In (R.Fields at before) context live) xs l n = WellNumberedProperties (names live) before
-    → WellNumberedProperties (names live) xs
-NumberedRight (R.In (R.Segments at before) context live) xs l n = AllWellNumbered (names live) before → AllWellNumbered (names live) xs
-NumberedRight (R.In (R.Jump at) context live) x l n = WellNumberedOptional (names live) x
-NumberedRight (R.In (R.BinaryOp at parent lhs) context live) x l n = WellNumbered (names live) lhs → WellNumbered (names live) x
-NumberedRight (R.In R.ExprStatement context live) f l n = Leaves live live f
-NumberedRight (R.In (R.Initializer at) context live) x l n = WellNumbered (names live) x
-NumberedRight (R.In (R.Definition at constant exported) context live) f l n = Leaves live f.1 f.0
-NumberedRight (R.In (R.Import at) context live) f l n = Leaves live f.1 f.0
-NumberedRight (R.In (R.Export at) context live) f l n = Leaves live f.1 f.0
-NumberedRight (R.In R.Statement context live) f l n = Leaves live f.1 f.0
-NumberedRight (R.In (R.Statements closing before) context live) fs l n = (ns : List Text) → WellNumberedStatements ns before
-    → names_after_all before ns ≡ names live
+NumberedRight (R.In R.Primary c w) x l n = UnlessCalled (names w) x n
+NumberedRight (R.In (R.Called at q) c w) x l n = AllWellNumbered (names w) x.1
+NumberedRight (R.Path w y) x l n = is_variable y ≡ true → WellNumbered (names w) x
+NumberedRight (R.Links w spot) ls l n = AllLinks (names w) spot.before → AllLinks (names w) ls
+NumberedRight (R.In (R.Postfix y) c w) x l n = UnlessCalled (names w) y l → WellNumbered (names w) x
+NumberedRight (R.In (R.Arguments at) c w) xs l n = AllWellNumbered (names w) xs
+NumberedRight (R.In (R.Items before) c w) xs l n = AllWellNumbered (names w) before → AllWellNumbered (names w) xs
+NumberedRight (R.In (R.Elements at before) c w) xs l n = AllWellNumbered (names w) before → AllWellNumbered (names w) xs
+NumberedRight (R.In (R.Fields at before) c w) xs l n = WellNumberedProperties (names w) before
+    → WellNumberedProperties (names w) xs
+NumberedRight (R.In (R.Segments at before) c w) xs l n = AllWellNumbered (names w) before → AllWellNumbered (names w) xs
+NumberedRight (R.In (R.Jump at) c w) x l n = WellNumberedOptional (names w) x
+NumberedRight (R.In (R.BinaryOp at parent lhs) c w) x l n = WellNumbered (names w) lhs → WellNumbered (names w) x
+NumberedRight (R.In R.ExprStatement c w) f l n = Leaves w w f
+NumberedRight (R.In (R.Definition at constant exported) c w) f l n = Leaves w f.1 f.0
+NumberedRight (R.In (R.Import at) c w) f l n = Leaves w f.1 f.0
+NumberedRight (R.In (R.Export at) c w) f l n = Leaves w f.1 f.0
+NumberedRight (R.In R.Statement c w) f l n = Leaves w f.1 f.0
+NumberedRight (R.In (R.Statements closing before) c w) fs l n = (ns : List Text) → WellNumberedStatements ns before
+    → names_after_all before ns ≡ names w
     → WellNumberedStatements ns fs.0 × (names_after_all fs.0 ns ≡ names fs.1)
-NumberedRight (R.In R.Inside context live) fs l n = WellNumberedStatements (names live) fs
-NumberedRight (R.In (R.Block at) context live) b l n = WellNumberedBlock (names live) b
+NumberedRight (R.In R.Inside c w) fs l n = WellNumberedStatements (names w) fs
+NumberedRight (R.In (R.Block at) c w) b l n = WellNumberedBlock (names w) b
 NumberedRight (R.BlockEnd at fs) b l n = (ns : List Text) → WellNumberedStatements ns fs → WellNumberedBlock ns b
-NumberedRight (R.In (R.Construct at kind) context live) f l n = Leaves live live f
-NumberedRight (R.In (R.Braced at) context live) b l n = WellNumberedBlock (names live) b
-NumberedRight (R.In R.Guard context live) x l n = WellNumbered (names live) x
-NumberedRight (R.In R.Iterated context live) x l n = WellNumbered (names live) x
-NumberedRight (R.In (R.Conditional at) context live) f l n = Leaves live live f
-NumberedRight (R.In (R.Branch at) context live) b l n = WellNumberedBlock (names live) b
-NumberedRight (R.In (R.Arms before) context live) x l n = IsCollected (names live) before → IsCollected (names live) x
-NumberedRight (R.In (R.Arm before) context live) a l n = AllWellNumbered (names live) a.0 × WellNumbered (names live) a.1
-    × WellNumbered (names live) a.2
-NumberedRight (R.In (R.DefaultArm default) context live) x l n = WellNumbered (names live) x
-NumberedRight (R.In (R.Cases before) context live) xs l n = AllWellNumbered (names live) before → AllWellNumbered (names live) xs
-NumberedRight (R.In R.Case context live) x l n = WellNumbered (names live) x
-NumberedRight (R.In R.CaseGuard context live) x l n = WellNumbered (names live) x
-NumberedRight (R.In R.Action context live) x l n = WellNumbered (names live) x.0
-NumberedRight (R.In (R.FunctionStatement comments first at is_private) context live) f l n = Leaves live f.1 f.0
-NumberedRight (R.Function context comments at is_private) x l n = WellNumberedFunction [] x.function.parameters x
-NumberedRight (R.In (R.Closure at by) context live) x l n = WellNumbered (names live) x
-NumberedRight (R.In R.ClosureBody context live) f l n = WellNumberedStatement (names live) f
+NumberedRight (R.In (R.Construct at kind) c w) f l n = Leaves w w f
+NumberedRight (R.In (R.Braced at) c w) b l n = WellNumberedBlock (names w) b
+NumberedRight (R.In (R.Conditional at) c w) f l n = Leaves w w f
+NumberedRight (R.In (R.Branch at) c w) b l n = WellNumberedBlock (names w) b
+NumberedRight (R.In (R.Arms before) c w) x l n = IsCollected (names w) before → IsCollected (names w) x
+NumberedRight (R.In (R.Arm before) c w) a l n = AllWellNumbered (names w) a.0 × WellNumbered (names w) a.1
+    × WellNumbered (names w) a.2
+NumberedRight (R.In (R.Cases before) c w) xs l n = AllWellNumbered (names w) before → AllWellNumbered (names w) xs
+NumberedRight (R.In R.Action c w) x l n = WellNumbered (names w) x.0
+NumberedRight (R.In (R.FunctionStatement comments first at is_private) c w) f l n = Leaves w f.1 f.0
+NumberedRight (R.Function c comments at is_private) x l n = WellNumberedFunction [] x.function.parameters x
+NumberedRight (R.In R.ClosureBody c w) f l n = WellNumberedStatement (names w) f
+NumberedRight (R.In R.VarName c w) x l n = Unit {0}
+NumberedRight (R.In what c w) x l n = WellNumbered (names w) x
 NumberedRight _ x l n = Unit {0}
 
 -- ---- the function of a closure
@@ -132,5 +120,6 @@ pub record TreesAreWellNumbered : Type 0 where
       (f : D.Form production (R.Function context comments at is_private) x) (s t : Point)
       → Met (D.demands production f Nothing) s t → WellNumberedFunction [] x.function.parameters x
   pub closure : (context : Context) (live : Live) (at : Position) (by : Bars) (x : Node)
-      (f : D.Form production (R.In (R.Closure at by) context live) x) (s t : Point) → Met (D.demands production f Nothing) s t
+      (f : D.Form production (R.In (R.Closure at by) context live) x) (s t : Point)
+      → Met (D.demands production f Nothing) s t
       → WellNumberedFunction (closure_parts f).captured (closure_parts f).own (closure_parts f).ended

@@ -177,8 +177,7 @@ abbrev pub function_tokens : List (Lexeme × ℕ)
 function_tokens = (Sign token.Or, 1) ∷ (Name (codes "f"), 4) ∷ []
 
 abbrev pub function_form : Written (formula with_closures)
-function_form =
-    whole (bars_alone 1 tt [] 0 (doing (evaluates (name_alone (codes "f") 4 (end_mark 5)) tt)) (end_mark 5))
+function_form = whole (bars_alone 1 tt [] 0 (doing (evaluates (name_alone (codes "f") 4 (end_mark 5)) tt)) (end_mark 5))
 
 pub record FunctionNameRow : Type 0 where
   pub tree_is : tree_of (formula with_closures) function_form ≡ pointer 0 0 1

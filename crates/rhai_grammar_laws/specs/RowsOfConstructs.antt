@@ -14,9 +14,7 @@ use Rattle.rhai_grammar.specs.Flags as bit
 use Rattle.rhai_grammar.specs.Operators.{operator_call}
 use Rattle.rhai_grammar.specs.RowStreams.{between, depth, under, unread}
 use Rattle.rhai_grammar.specs.Forms.{by_next, form, given, if_not, literal_here, must, must_here, open_form, part}
-use Rattle.rhai_grammar.specs.Forms.{checked_here}
-use Rattle.rhai_grammar.specs.Forms.{checked}
-use Rattle.rhai_grammar.specs.Forms.{of_kind, of_kind_here, any}
+use Rattle.rhai_grammar.specs.Forms.{checked_here, checked, of_kind, of_kind_here, any}
 use Rattle.rhai_grammar.specs.Promises.{Unwritten, Written, tree_of}
 use Rattle.rhai_grammar_laws.specs.RowsOfStatements.{begins, definition, integer, let_tokens, variable}
 use Rattle.rhai_grammar_laws.specs.WorkedForms.{alone, joins_last, name_alone, named, number, right, right_of_range}

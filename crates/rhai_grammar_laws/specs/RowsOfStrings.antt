@@ -42,8 +42,7 @@ before (t ∷ ts) rest =
 -- `a${b}`
 abbrev pub string_begun : List (Lexeme × ℕ)
 string_begun =
-    (Interpolated (codes "a"), 1) ∷ (Sign token.LeftBrace, 3) ∷ (Name (codes "b"), 4)
-    ∷ (Sign token.RightBrace, 5) ∷ []
+    (Interpolated (codes "a"), 1) ∷ (Sign token.LeftBrace, 3) ∷ (Name (codes "b"), 4) ∷ (Sign token.RightBrace, 5) ∷ []
 
 -- what is left after its block, if this token is there in text mode
 abbrev pub after_block : Lexeme → Point

@@ -63,8 +63,7 @@ pair_tree =
 -- up to the raise that is missed under the limit 1
 abbrev pub pair_deep : (c : Context) → Unwritten (formula c)
 pair_deep c =
-    open_whole (open_run (number 1 1 (plus 3)) (
-    deep_right (plus 3) tt (right (number 2 5 (end_mark 6))) (end_mark 6)))
+    open_whole (open_run (number 1 1 (plus 3)) (deep_right (plus 3) tt (right (number 2 5 (end_mark 6))) (end_mark 6)))
 
 pub record PairRow : Type 0 where
   pub tree_is : (c : Context) → tree_of (formula c) (pair_form c) ≡ pair_tree

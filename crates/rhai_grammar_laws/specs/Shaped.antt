@@ -8,8 +8,8 @@ use Rattle.rhai_grammar.specs.Goals.{In, Goal, Val, Expression, Script}
 use Rattle.rhai_grammar.specs.Productions.{Production, view}
 use Rattle.rhai_grammar.specs.Rules.{production}
 use Rattle.rhai_grammar.specs.Forms as F
-use Rattle.rhai_grammar.specs.Forms.{given, of_kind, any, if_so, if_not, by_next, at_next, must, checked, knows, adds, uses}
-use Rattle.rhai_grammar.specs.Forms.{captures, part, literal, apart, in_text, form}
+use Rattle.rhai_grammar.specs.Forms.{given, of_kind, any, if_so, if_not, by_next, at_next, must, checked, knows, adds}
+use Rattle.rhai_grammar.specs.Forms.{uses, captures, part, literal, apart, in_text, form}
 
 -- the same context at another level
 abbrev pub at_level : ℕ → Context → Context

@@ -18,8 +18,7 @@ use Rattle.rhai_grammar.specs.Forms as D
 use Rattle.rhai_grammar.specs.Forms.{apart, form, knows, must, part}
 use Rattle.rhai_grammar_laws.specs.Numbered.{closure_parts}
 use Rattle.rhai_grammar_laws.specs.WrittenUses.{IsEnd, IsUse, UseOrEnd, ends_of, live_slots, outer_uses, use_of}
-use Rattle.rhai_grammar_laws.specs.WrittenUses.{uses_in}
-use Rattle.rhai_grammar_laws.specs.WrittenUses.{uses_of}
+use Rattle.rhai_grammar_laws.specs.WrittenUses.{uses_in, uses_of}
 
 -- ---- which productions use names
 
@@ -29,49 +28,10 @@ IsWithin within context = in_closure context.settings ≡ within
 
 -- So are those under which the goal is read, if it has any.
 abbrev pub Stands : (within : Bool) → Goal → Type 0
-Stands within (R.In R.Whole context live) = IsWithin within context
-Stands within (R.In R.Expression context live) = IsWithin within context
-Stands within (R.In R.Operand context live) = IsWithin within context
-Stands within (R.In (R.RightOperand place) context live) = IsWithin within context
-Stands within (R.In R.Primary context live) = IsWithin within context
-Stands within (R.In (R.Called at q) context live) = IsWithin within context
+Stands within (R.In R.VarName context live) = Unit {0}
+Stands within (R.In what context live) = IsWithin within context
 Stands within (R.Links live spot) = IsWithin within spot.settings × IsWithin within spot.brackets
-Stands within (R.In (R.Index indexed) context live) = IsWithin within context
-Stands within (R.In R.Member context live) = IsWithin within context
-Stands within (R.In (R.Postfix y) context live) = IsWithin within context
-Stands within (R.In (R.Arguments at) context live) = IsWithin within context
-Stands within (R.In (R.Items before) context live) = IsWithin within context
-Stands within (R.In (R.Elements at before) context live) = IsWithin within context
-Stands within (R.In (R.Fields at before) context live) = IsWithin within context
-Stands within (R.In (R.Segments at before) context live) = IsWithin within context
-Stands within (R.In (R.Jump at) context live) = IsWithin within context
-Stands within (R.In (R.BinaryOp at parent lhs) context live) = IsWithin within context
-Stands within (R.In R.ExprStatement context live) = IsWithin within context
-Stands within (R.In (R.Initializer at) context live) = IsWithin within context
-Stands within (R.In (R.Definition at constant exported) context live) = IsWithin within context
-Stands within (R.In (R.Import at) context live) = IsWithin within context
-Stands within (R.In (R.Export at) context live) = IsWithin within context
-Stands within (R.In R.Statement context live) = IsWithin within context
-Stands within (R.In (R.Statements closing before) context live) = IsWithin within context
-Stands within (R.In R.Inside context live) = IsWithin within context
-Stands within (R.In (R.Block at) context live) = IsWithin within context
-Stands within (R.In (R.Construct at kind) context live) = IsWithin within context
-Stands within (R.In (R.Braced at) context live) = IsWithin within context
-Stands within (R.In R.Guard context live) = IsWithin within context
-Stands within (R.In R.Iterated context live) = IsWithin within context
-Stands within (R.In (R.Conditional at) context live) = IsWithin within context
-Stands within (R.In (R.Branch at) context live) = IsWithin within context
-Stands within (R.In (R.Arms before) context live) = IsWithin within context
-Stands within (R.In (R.Arm before) context live) = IsWithin within context
-Stands within (R.In (R.DefaultArm default) context live) = IsWithin within context
-Stands within (R.In (R.Cases before) context live) = IsWithin within context
-Stands within (R.In R.Case context live) = IsWithin within context
-Stands within (R.In R.CaseGuard context live) = IsWithin within context
-Stands within (R.In R.Action context live) = IsWithin within context
-Stands within (R.In (R.FunctionStatement comments first at is_private) context live) = IsWithin within context
 Stands within (R.Function context comments at is_private) = IsWithin within context
-Stands within (R.In (R.Closure at by) context live) = IsWithin within context
-Stands within (R.In R.ClosureBody context live) = IsWithin within context
 Stands within _ = Unit {0}
 
 -- A part is read as what it is a part of. But no function is read in a closure.
@@ -171,7 +131,8 @@ pub record ClosuresCaptureTheirUses : Type 0 where
       → Met (D.demands production f Nothing) s t
       → t.captured ≡ with_uses s.captured (outer_uses (uses_in production f) s.library)
   pub closure : (context : Context) (live : Live) (at : Position) (by : Bars) (x : Node)
-      (f : D.Form production (R.In (R.Closure at by) context live) x) (s t : Point) → Met (D.demands production f Nothing) s t
+      (f : D.Form production (R.In (R.Closure at by) context live) x) (s t : Point)
+      → Met (D.demands production f Nothing) s t
       → (closure_body f).captured ≡ first_uses (outer_uses (closure_body f).uses s.library)
 
 -- After a form that fits outside of closures no more names are captured than before it.

@@ -16,8 +16,7 @@ use Rattle.rhai_grammar.specs.Goals.{In, BinaryOp, Expression, Links, NextOperat
 use Rattle.rhai_grammar.specs.Goals.{Statement, Whole}
 use Rattle.rhai_grammar.specs.Strengths.{continues}
 use Rattle.rhai_grammar.specs.Forms.{Filled, Form, by_next, form, given, at_next, if_not, if_so, must, part, of_kind}
-use Rattle.rhai_grammar.specs.Forms.{checked}
-use Rattle.rhai_grammar.specs.Forms.{any, uses}
+use Rattle.rhai_grammar.specs.Forms.{checked, any, uses}
 use Rattle.rhai_grammar.specs.Promises.{Written}
 use Rattle.rhai_grammar.specs.Rules as P
 use Rattle.rhai_grammar.specs.Rules.{production}
@@ -127,7 +126,8 @@ abbrev pub joins : {c : Context} {w : Live} {at : Position} {parent : ℕ} {x y 
     (t : After c.filter (Some op)) → Holds (continues parent op.0 op.1)
     → Form production (In (RightOperand (role_after t.token)) c w) y
     → Form production (In (BinaryOp (position_of y) op.0 y) (level_up c) w) r
-    → Form production (In (BinaryOp (place 1 t.column) parent (operator_tree t.token (place 1 t.column) x r)) (level_up c) w) z
+    → Form production (In (BinaryOp (place 1 t.column) parent (operator_tree t.token (place 1 t.column) x r)) (level_up
+    c) w) z
     → Form production (In (BinaryOp at parent x) c w) z
 joins {parent = parent} {op = op} t so y r z =
     form (part _ (form (by_next t.token (place 1 t.column) t.operator)) (

@@ -23,8 +23,7 @@ use Rattle.rhai_grammar.specs.declared.role.StatementStart.TheVariants as first
 use Rattle.rhai_grammar.specs.Goals as goal
 use Rattle.rhai_grammar.specs.Goals.{In, Block, Expression, Goal, Inside, Links, Operand, Statement, Val}
 use Rattle.rhai_grammar.specs.Forms.{Filled, Form, adds, apart, captures, by_next, form, given, at_next, if_not}
-use Rattle.rhai_grammar.specs.Forms.{checked}
-use Rattle.rhai_grammar.specs.Forms.{if_so, in_text, knows, literal, must, part, of_kind, any}
+use Rattle.rhai_grammar.specs.Forms.{checked, if_so, in_text, knows, literal, must, part, of_kind, any}
 use Rattle.rhai_grammar.specs.Rules as P
 use Rattle.rhai_grammar.specs.Rules.{production}
 use Rattle.rhai_grammar.specs.Productions.{Production}
@@ -53,7 +52,8 @@ two_names opening name column comma counter at closing in_at =
 abbrev pub for_each : {c : Context} {w : Live} {names : Text × Option Text} {x : Node} {b : node.Block} (at : ℕ)
     → Holds (may_stand c kind.For) → Form production goal.LoopNames names
     → Form production (In Expression (level_up (level_up c)) w) x
-    → Form production (goal.In (goal.Braced (place 1 at)) (loop_body (level_up (level_up c))) (loop_live names.0 names.1 w)) b
+    → Form production (In (goal.Braced (place 1 at)) (loop_body (level_up (level_up c))) (loop_live names.0 names.1 w))
+    b
     → Form production (In Statement c w) (for_statement names.0 names.1 x b (place 1 at), w)
 for_each {c} at so names over body =
     form (by_next (Sign token.For) (place 1 at) (construct_there kind.For (may_stand c kind.For) so (
@@ -65,7 +65,7 @@ for_each {c} at so names over body =
 -- a `switch` with its arms
 abbrev pub switch : {c : Context} {w : Live} {x : Node} {all : Collected} (at : ℕ)
     → Form production (In Expression (level_up (level_up c)) w) x → (opening : ℕ)
-    → Form production (goal.In (goal.Arms nothing_collected) (level_up (level_up c)) w) all
+    → Form production (In (goal.Arms nothing_collected) (level_up (level_up c)) w) all
     → Form production (In Statement c w) (switch_tree x all (place 1 at), w)
 switch at f opening arms =
     form (by_next (Sign token.Switch) (place 1 at) (any (Sign token.Switch) (place 1 at) (must (must (part _ (form (
@@ -78,8 +78,8 @@ IsCase _ = ⊥
 
 -- where such an arm begins
 abbrev case_there : {c : Context} {w : Live} {before all : Collected} (role : ArmRole) → IsCase role
-    → Filled production (goal.In (goal.Arms before) c w) (P.arms_by c w before arm.Case) all
-    → Filled production (goal.In (goal.Arms before) c w) (P.arms_by c w before role) all
+    → Filled production (In (goal.Arms before) c w) (P.arms_by c w before arm.Case) all
+    → Filled production (In (goal.Arms before) c w) (P.arms_by c w before role) all
 case_there arm.Case so f = f
 case_there arm.Default so f = absurd so
 case_there arm.Close so f = absurd so
@@ -87,20 +87,20 @@ case_there arm.Nothing so f = absurd so
 
 -- a case of an arm, with no other after it
 abbrev pub cased : {c : Context} {w : Live} {x : Node} → Form production (In Expression (in_case c) (in_block w)) x
-    → Form production (goal.In (goal.Cases node.no_nodes) c w) (with_node node.no_nodes x)
+    → Form production (In (goal.Cases node.no_nodes) c w) (with_node node.no_nodes x)
 cased f = form (part _ (form (literal _ f given)) (if_not given))
 
 -- where an arm does a statement
 abbrev action_as : {c : Context} {w : Live} {x : Node × Bool} (b : Bool) → Holds (not b)
-    → Filled production (goal.In goal.Action c w) (P.action_by c w false) x
-    → Filled production (goal.In goal.Action c w) (P.action_by c w b) x
+    → Filled production (In goal.Action c w) (P.action_by c w false) x
+    → Filled production (In goal.Action c w) (P.action_by c w b) x
 action_as false so f = f
 action_as true so f = absurd so
 
 -- the statement that an arm does
 abbrev pub does : {c : Context} {w : Live} {f : node.Statement × Live} → Holds (not (has_single_blocks c))
     → Form production (In Statement (below_global c) (in_block w)) f
-    → Form production (goal.In goal.Action c w) (block_value (made_block f.0), ends_arm f.0)
+    → Form production (In goal.Action c w) (block_value (made_block f.0), ends_arm f.0)
 does {c} so f = form (action_as (has_single_blocks c) so (if_not (part _ f given)))
 
 -- a comma after an arm; and the `}`, which is not taken
@@ -113,9 +113,9 @@ brace_after column = form (by_next (Sign token.RightBrace) (place 1 column) give
 -- an arm with one case and without a guard, and the arms after it
 abbrev pub arm_then : {c : Context} {w : Live} {before all : Collected} {x : Node} {a : Node × Bool}
     (f : Form production (In Expression (in_case c) (in_block w)) x) → IsCase (arm_role (start f).0) → (arrow : ℕ)
-    → Form production (goal.In goal.Action c w) a → Form production (goal.ArmEnd a.1) tt
-    → Form production (goal.In (goal.Arms (with_arm_collected before (with_node node.no_nodes x) no_guard a.0)) c w) all
-    → Form production (goal.In (goal.Arms before) c w) all
+    → Form production (In goal.Action c w) a → Form production (goal.ArmEnd a.1) tt
+    → Form production (In (goal.Arms (with_arm_collected before (with_node node.no_nodes x) no_guard a.0)) c w) all
+    → Form production (In (goal.Arms before) c w) all
 arm_then f so arrow action end rest =
     form (by_next (start f).0 (start f).1 (case_there (arm_role (start f).0) so (part _ (form (part _ (cased f) (
     part _ (form (if_not given)) (of_kind (Sign token.DoubleArrow) (place 1 arrow) (
@@ -123,7 +123,7 @@ arm_then f so arrow action end rest =
 
 -- no further arm, but the `}`
 abbrev pub no_arm : {c : Context} {w : Live} {before : Collected} (closing : ℕ)
-    → Form production (goal.In (goal.Arms before) c w) before
+    → Form production (In (goal.Arms before) c w) before
 no_arm closing =
     form (by_next (Sign token.RightBrace) (place 1 closing) (any (Sign token.RightBrace) (place 1 closing) given))
 
@@ -131,8 +131,7 @@ no_arm closing =
 
 -- an empty pair
 abbrev pub no_parameters : {function : Text} (column : ℕ) → Form production (goal.ParameterList function) []
-no_parameters column =
-    form (by_next (Sign token.Unit) (place 1 column) (any (Sign token.Unit) (place 1 column) given))
+no_parameters column = form (by_next (Sign token.Unit) (place 1 column) (any (Sign token.Unit) (place 1 column) given))
 
 -- one parameter in parentheses
 abbrev pub one_parameter : {function : Text} (opening : ℕ) (name : Text) (column closing : ℕ)
@@ -155,18 +154,19 @@ headed name column names opening body =
 -- a function after its `fn`
 abbrev pub function : {c : Context} {w : Live} {comments : List Comment} {at first : Position} {is_private : Bool}
     {x : Ended} → Form production (goal.Function (level_up (in_function c w)) comments at is_private) x
-    → Form production (goal.In (goal.FunctionStatement comments first at is_private) c w) (noop at, w)
+    → Form production (In (goal.FunctionStatement comments first at is_private) c w) (noop at, w)
 function f = form (must (knows (must (part _ f (knows (adds given))))))
 
 -- a function as a statement
 abbrev pub declares : {c : Context} {w : Live} {f : node.Statement × Live} (at : ℕ)
-    → Form production (goal.In (goal.FunctionStatement [] (place 1 at) (place 1 at) false) c w) f
+    → Form production (In (goal.FunctionStatement [] (place 1 at) (place 1 at) false) c w) f
     → Form production (In Statement c w) f
 declares at f = form (by_next (Sign token.Fn) (place 1 at) (any (Sign token.Fn) (place 1 at) (part _ f given)))
 
 -- a doc comment, and the function after it
 abbrev pub documented : {c : Context} {w : Live} {f : node.Statement × Live} (text : Text) (column at : ℕ)
-    → Form production (goal.In (goal.FunctionStatement (record { text = text; at = place 1 column } ∷ []) (place 1 at) (place 1 at) false) c w) f
+    → Form production (In (goal.FunctionStatement (record { text = text; at = place 1 column } ∷ []) (place 1 at) (place
+    1 at) false) c w) f
     → Form production (In Statement c w) f
 documented text column at f =
     form (by_next (lexeme.Comment text) (place 1 column) (any (lexeme.Comment text) (place 1 column) (must (
@@ -177,7 +177,8 @@ documented text column at f =
 
 -- an interpolated string up to its last text
 abbrev pub interpolated : {c : Context} {w : Live} {o : Option (ℕ × Bool)} {ns : Nodes} (text : Text) (column : ℕ)
-    → Form production (goal.In (goal.Segments (place 1 column) (added_text node.no_nodes text (place 1 column))) (level_up c) w) ns
+    → Form production (In (goal.Segments (place 1 column) (added_text node.no_nodes text (place 1 column))) (level_up c)
+    w) ns
     → After c.filter o → Form production (In Operand c w) (node.interpolated ns (place 1 column))
 interpolated text column segments t =
     form (by_next (lexeme.Interpolated text) (place 1 column) (linked (form (
@@ -187,7 +188,7 @@ interpolated text column segments t =
 -- a block of an interpolated string, and the last text after it
 abbrev pub last_segment : {c : Context} {w : Live} {start : Position} {before : Nodes} {fs : node.Statements}
     (opening : ℕ) → Form production (In Inside (level_up c) w) fs → (closing : ℕ) (text : Text) (column : ℕ)
-    → Form production (goal.In (goal.Segments start before) c w)
+    → Form production (In (goal.Segments start before) c w)
     (added_text (with_node before (block_value (braces fs (place 1 opening) (place 1 closing)))) text (place 1 column))
 last_segment opening f closing text column =
     form (part _ (form (of_kind (Sign token.LeftBrace) (place 1 opening) given)) (must (part _ f (
@@ -204,23 +205,23 @@ capturing c w (u ∷ us) f = captures (capturing c w us f)
 -- the rest of a closure of these parameters: what it captures, how many closures had ended before it, and what it does
 abbrev ended_by : {c : Context} {w : Live} {at : Position} {by : Bars} {f : node.Statement} (names : List Text)
     (us : List Use) (n : ℕ)
-    → Form production (goal.In goal.ClosureBody (level_up (in_closure c w)) (parameters_live names)) f
-    → Filled production (goal.In (goal.Closure at by) c w) (P.closure_of c w at names) (closure_node at n us names w)
+    → Form production (In goal.ClosureBody (level_up (in_closure c w)) (parameters_live names)) f
+    → Filled production (In (goal.Closure at by) c w) (P.closure_of c w at names) (closure_node at n us names w)
 ended_by {c} {w} names us n f = must (apart _ us n f (capturing c w us (knows (adds given))))
 
 -- the statement of a closure; or nothing, before the end mark
 abbrev pub doing : {c : Context} {w : Live} {f : node.Statement × Live} → Form production (In Statement c w) f
-    → Form production (goal.In goal.ClosureBody c w) f.0
+    → Form production (In goal.ClosureBody c w) f.0
 doing f = form (if_not (part _ f given))
 
 abbrev pub doing_nothing : {c : Context} {w : Live} (end : ℕ)
-    → Form production (goal.In goal.ClosureBody c w) (noop (place 1 end))
+    → Form production (In goal.ClosureBody c w) (noop (place 1 end))
 doing_nothing end = form (if_so (at_next (Sign token.EOF) (place 1 end) given))
 
 -- a closure without parameters, where closures are operands, and its links
 abbrev pub bars_then : {c : Context} {w : Live} {f : node.Statement} {ls : List Link} (at : ℕ)
     → Holds (may_be_closure c bars.Pair) → (us : List Use) (n : ℕ)
-    → Form production (goal.In goal.ClosureBody (level_up (in_closure c w)) (parameters_live [])) f
+    → Form production (In goal.ClosureBody (level_up (in_closure c w)) (parameters_live [])) f
     → Form production (Links w (spot_after_operand c (closure_node (place 1 at) n us [] w))) ls
     → Form production (In Operand c w) (chained (closure_node (place 1 at) n us [] w) ls)
 bars_then {c} at so us n f links =
@@ -231,7 +232,7 @@ bars_then {c} at so us n f links =
 -- the same with one parameter
 abbrev pub parameter_then : {c : Context} {w : Live} {f : node.Statement} {ls : List Link} (at : ℕ) (name : Text)
     (column closing : ℕ) → Holds (may_be_closure c bars.List) → (us : List Use) (n : ℕ)
-    → Form production (goal.In goal.ClosureBody (level_up (in_closure c w)) (parameters_live (name ∷ []))) f
+    → Form production (In goal.ClosureBody (level_up (in_closure c w)) (parameters_live (name ∷ []))) f
     → Form production (Links w (spot_after_operand c (closure_node (place 1 at) n us (name ∷ []) w))) ls
     → Form production (In Operand c w) (chained (closure_node (place 1 at) n us (name ∷ []) w) ls)
 parameter_then {c} at name column closing so us n f links =
@@ -244,14 +245,14 @@ parameter_then {c} at name column closing so us n f links =
 -- a closure alone, without links, before a token
 abbrev pub bars_alone : {c : Context} {w : Live} {f : node.Statement} (at : ℕ)
     → Holds (may_be_closure (level_up c) bars.Pair) → (us : List Use) (n : ℕ)
-    → Form production (goal.In goal.ClosureBody (level_up (in_closure (level_up c) w)) (parameters_live [])) f
+    → Form production (In goal.ClosureBody (level_up (in_closure (level_up c) w)) (parameters_live [])) f
     → After c.filter None → Form production (In Expression c w) (closure_node (place 1 at) n us [] w)
 bars_alone at so us n f t = run (bars_then at so us n f (unlinked t)) (ends t)
 
 -- the same with one parameter
 abbrev pub parameter_alone : {c : Context} {w : Live} {f : node.Statement} (at : ℕ) (name : Text)
     (column closing : ℕ) → Holds (may_be_closure (level_up c) bars.List) → (us : List Use) (n : ℕ)
-    → Form production (goal.In goal.ClosureBody (level_up (in_closure (level_up c) w)) (parameters_live (name ∷ []))) f
+    → Form production (In goal.ClosureBody (level_up (in_closure (level_up c) w)) (parameters_live (name ∷ []))) f
     → After c.filter None → Form production (In Expression c w) (closure_node (place 1 at) n us (name ∷ []) w)
 parameter_alone at name column closing so us n f t =
     run (parameter_then at name column closing so us n f (unlinked t)) (ends t)

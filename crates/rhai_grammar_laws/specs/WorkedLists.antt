@@ -55,14 +55,14 @@ dotted dot name column links =
 
 -- the last argument, before the `)`
 abbrev pub last_argument : {c : Context} {w : Live} {before : Nodes} {x : Node} → Form production (In Expression c w) x
-    → (closing : ℕ) → Form production (goal.In (goal.Items before) c w) (with_node before x)
+    → (closing : ℕ) → Form production (In (goal.Items before) c w) (with_node before x)
 last_argument f closing =
     form (part _ f (by_next (Sign token.RightParen) (place 1 closing) (
     any (Sign token.RightParen) (place 1 closing) given)))
 
 -- a name that is called with arguments in parentheses
 abbrev pub called : {c : Context} {w : Live} {o : Option (ℕ × Bool)} {ns : Nodes} (name : Text) (column opening : ℕ)
-    → Form production (goal.In (goal.Items node.no_nodes) (level_up c) w) ns → After c.filter o
+    → Form production (In (goal.Items node.no_nodes) (level_up c) w) ns → After c.filter o
     → Form production (In Operand c w) (call_tree (name_tree w.slots true name (place 1 column)) false ns)
 called name column opening items t =
     form (by_next (Name name) (place 1 column) (part _ (name_before name column (Sign token.LeftParen) opening) (
@@ -74,7 +74,8 @@ called name column opening items t =
 -- a name after `::` that is called with `()`
 abbrev pub path_called : {c : Context} {w : Live} {o : Option (ℕ × Bool)} (root : Text) (column colons : ℕ)
     (name : Text) (at pair : ℕ) → After c.filter o
-    → Form production (In Operand c w) (call_tree (qualified w.imports (name_tree w.slots true root (place 1 column)) name
+    → Form production (In Operand c w) (call_tree (qualified w.imports (name_tree w.slots true root (place 1 column))
+    name
     (place 1 at)) false node.no_nodes)
 path_called root column colons name at pair t =
     form (by_next (Name root) (place 1 column) (part _ (name_before root column (Sign token.DoubleColon) colons) (
@@ -89,8 +90,8 @@ IsItem _ = ⊥
 
 -- where an item of an array begins
 abbrev pub item_there : {c : Context} {w : Live} {at : Position} {before ns : Nodes} (role : ItemRole) → IsItem role
-    → Filled production (goal.In (goal.Elements at before) c w) (P.element_by c w at before item.Item) ns
-    → Filled production (goal.In (goal.Elements at before) c w) (P.element_by c w at before role) ns
+    → Filled production (In (goal.Elements at before) c w) (P.element_by c w at before item.Item) ns
+    → Filled production (In (goal.Elements at before) c w) (P.element_by c w at before role) ns
 item_there item.Item so f = f
 item_there item.End so f = absurd so
 item_there item.Nothing so f = absurd so
@@ -99,7 +100,7 @@ item_there item.Nothing so f = absurd so
 abbrev pub last_element : {c : Context} {w : Live} {at : Position} {before : Nodes} {x : Node}
     (f : Form production (In Expression (level_up c) w) x)
     → IsItem (item_role c.sizes.array (node_count before) (start f).0) → (closing : ℕ)
-    → Form production (goal.In (goal.Elements at before) c w) (with_node before x)
+    → Form production (In (goal.Elements at before) c w) (with_node before x)
 last_element {c} {before = before} f so closing =
     form (by_next (start f).0 (start f).1 (item_there (item_role c.sizes.array (node_count before) (start f).0) so (
     must (part _ f (by_next (Sign token.RightBracket) (place 1 closing) (
@@ -107,7 +108,7 @@ last_element {c} {before = before} f so closing =
 
 -- an array
 abbrev pub listed : {c : Context} {w : Live} {o : Option (ℕ × Bool)} {ns : Nodes} (opening : ℕ)
-    → Form production (goal.In (goal.Elements (place 1 opening) node.no_nodes) (level_up c) w) ns → After c.filter o
+    → Form production (In (goal.Elements (place 1 opening) node.no_nodes) (level_up c) w) ns → After c.filter o
     → Form production (In Operand c w) (array ns (place 1 opening))
 listed opening items t =
     form (by_next (Sign token.LeftBracket) (place 1 opening) (linked (form (

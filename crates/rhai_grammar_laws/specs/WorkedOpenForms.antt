@@ -84,7 +84,8 @@ deep_right t so y u =
 abbrev pub open_tighter : {c : Context} {w : Live} {at : Position} {parent : ℕ} {x y : Node} {op : ℕ × Bool}
     {next : Option (ℕ × Bool)} (t : After c.filter (Some op)) → Holds (continues parent op.0 op.1)
     → Form production (In (RightOperand (role_after t.token)) c w) y → After c.filter next
-    → Open production (In (BinaryOp (position_of y) op.0 y) (level_up c) w) → Open production (In (BinaryOp at parent x) c w)
+    → Open production (In (BinaryOp (position_of y) op.0 y) (level_up c) w)
+    → Open production (In (BinaryOp at parent x) c w)
 open_tighter t so y u r =
     open_after t so (any t.token (place 1 t.column) (part _ y (
     part _ (form (by_next u.token (place 1 u.column) u.operator)) (must (part_here r)))))
@@ -94,7 +95,8 @@ abbrev pub open_rest : {c : Context} {w : Live} {at : Position} {parent : ℕ} {
     (t : After c.filter (Some op)) → Holds (continues parent op.0 op.1)
     → Form production (In (RightOperand (role_after t.token)) c w) y
     → Form production (In (BinaryOp (position_of y) op.0 y) (level_up c) w) r
-    → Open production (In (BinaryOp (place 1 t.column) parent (operator_tree t.token (place 1 t.column) x r)) (level_up c) w)
+    → Open production (In (BinaryOp (place 1 t.column) parent (operator_tree t.token (place 1 t.column) x r)) (level_up
+    c) w)
     → Open production (In (BinaryOp at parent x) c w)
 open_rest t so y r z =
     open_after t so (any t.token (place 1 t.column) (part _ y (
@@ -104,7 +106,7 @@ open_rest t so y r z =
 
 -- a name that is called with arguments in parentheses, which are open
 abbrev pub open_call : {c : Context} {w : Live} (name : Text) (column opening : ℕ)
-    → Open production (goal.In (goal.Arguments (place 1 column)) c w)
+    → Open production (In (goal.Arguments (place 1 column)) c w)
     → FilledIn production (In Operand c w) (production (In Operand c w)) None
 open_call name column opening f =
     by_next (Name name) (place 1 column) (part _ (name_before name column (Sign token.LeftParen) opening) (
@@ -112,17 +114,17 @@ open_call name column opening f =
     any (Sign token.LeftParen) (place 1 opening) (part_here f))))))))))
 
 -- arguments that are too deep
-abbrev pub deep_arguments : {c : Context} {w : Live} {at : Position} → Open production (goal.In (goal.Arguments at) c w)
+abbrev pub deep_arguments : {c : Context} {w : Live} {at : Position} → Open production (In (goal.Arguments at) c w)
 deep_arguments = open_form (if_not (if_not must_here))
 
 -- arguments of which the first is open
 abbrev pub open_argument : {c : Context} {w : Live} {at : Position} → Open production (In Expression (level_up c) w)
-    → Open production (goal.In (goal.Arguments at) c w)
+    → Open production (In (goal.Arguments at) c w)
 open_argument f = open_form (if_not (if_not (must (part_here (open_form (part_here f))))))
 
 -- an array whose items are open
 abbrev pub open_array : {c : Context} {w : Live} (opening : ℕ)
-    → Open production (goal.In (goal.Elements (place 1 opening) node.no_nodes) (level_up c) w)
+    → Open production (In (goal.Elements (place 1 opening) node.no_nodes) (level_up c) w)
     → FilledIn production (In Operand c w) (production (In Operand c w)) None
 open_array opening items =
     by_next (Sign token.LeftBracket) (place 1 opening) (part_here (open_form (
@@ -131,8 +133,8 @@ open_array opening items =
 
 -- where an item of an array begins
 abbrev item_there : {c : Context} {w : Live} {at : Position} {before : Nodes} (role : ItemRole) → IsItem role
-    → FilledIn production (goal.In (goal.Elements at before) c w) (P.element_by c w at before item.Item) None
-    → FilledIn production (goal.In (goal.Elements at before) c w) (P.element_by c w at before role) None
+    → FilledIn production (In (goal.Elements at before) c w) (P.element_by c w at before item.Item) None
+    → FilledIn production (In (goal.Elements at before) c w) (P.element_by c w at before role) None
 item_there item.Item so f = f
 item_there item.End so f = absurd so
 item_there item.Nothing so f = absurd so
@@ -141,8 +143,10 @@ item_there item.Nothing so f = absurd so
 abbrev pub open_items : {c : Context} {w : Live} {at : Position} {before : Nodes} {x : Node}
     (f : Form production (In Expression (level_up c) w) x)
     → IsItem (item_role c.sizes.array (node_count before) (start f).0) → (comma : ℕ)
-    → Open production (goal.In (goal.Elements at (with_node before x)) c w) → Open production (goal.In (goal.Elements at before) c w)
+    → Open production (In (goal.Elements at (with_node before x)) c w)
+    → Open production (In (goal.Elements at before) c w)
 open_items {c} {before = before} f so comma rest =
-    open_form (by_next (start f).0 (start f).1 (item_there (item_role c.sizes.array (node_count before) (start f).0) so (
+    open_form (by_next (start f).0 (start f).1 (item_there (item_role c.sizes.array (node_count before) (start f).0) so
+    (
     must (part _ f (by_next (Sign token.Comma) (place 1 comma) (
     any (Sign token.Comma) (place 1 comma) (part_here rest)))))))

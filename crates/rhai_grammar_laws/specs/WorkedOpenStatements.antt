@@ -132,15 +132,15 @@ open_let at name column equals f =
     open_part (if_so (any (Sign token.Equals) (place 1 equals) (must (part_here f))))))))))
 
 -- a jump whose value is too deep, or open
-abbrev pub deep_jump : {c : Context} {w : Live} {at : Position} → Open production (goal.In (goal.Jump at) c w)
+abbrev pub deep_jump : {c : Context} {w : Live} {at : Position} → Open production (In (goal.Jump at) c w)
 deep_jump = open_form (if_so must_here)
 
 abbrev pub open_jump : {c : Context} {w : Live} {at : Position} → Open production (In Expression (level_up c) w)
-    → Open production (goal.In (goal.Jump at) c w)
+    → Open production (In (goal.Jump at) c w)
 open_jump f = open_form (if_so (must (part_here f)))
 
 -- a `return` whose value is too deep or open
-abbrev pub open_return : {c : Context} {w : Live} (at : ℕ) → Open production (goal.In (goal.Jump (place 1 at)) c w)
+abbrev pub open_return : {c : Context} {w : Live} (at : ℕ) → Open production (In (goal.Jump (place 1 at)) c w)
     → Open production (In Statement c w)
 open_return at f =
     open_form (by_next (Sign token.Return) (place 1 at) (any (Sign token.Return) (place 1 at) (part_here f)))
@@ -172,7 +172,7 @@ open_block_at at f =
 -- a `switch` whose arms are open
 abbrev pub open_switch : {c : Context} {w : Live} {x : Node} (at : ℕ)
     → Form production (In Expression (level_up (level_up c)) w) x → (opening : ℕ)
-    → Open production (goal.In (goal.Arms nothing_collected) (level_up (level_up c)) w) → Open production (In Statement c w)
+    → Open production (In (goal.Arms nothing_collected) (level_up (level_up c)) w) → Open production (In Statement c w)
 open_switch at f opening arms =
     open_form (by_next (Sign token.Switch) (place 1 at) (any (Sign token.Switch) (place 1 at) (must (must (open_part (
     part _ f (of_kind (Sign token.LeftBrace) (place 1 opening) (part_here arms))))))))
@@ -183,32 +183,33 @@ open_switch at f opening arms =
 abbrev pub open_function : {c : Context} {w : Live} {comments : List Comment} {at first : Position} {is_private : Bool}
     {names : List Text} (name : Text) (column : ℕ) → Form production (goal.ParameterList name) names → (opening : ℕ)
     → Open production (In (Block (place 1 opening)) (level_up (level_up (in_function c w))) (parameters_live names))
-    → Open production (goal.In (goal.FunctionStatement comments first at is_private) c w)
+    → Open production (In (goal.FunctionStatement comments first at is_private) c w)
 open_function name column names opening body =
-    open_form (must (knows (must (open_part (part _ (form (of_kind (Name name) (place 1 column) (if_not (must given)))) (
+    open_form (must (knows (must (open_part (part _ (form (of_kind (Name name) (place 1 column) (if_not (must given))))
+    (
     part _ names (if_so (any (Sign token.LeftBrace) (place 1 opening) (must (part_here body))))))))))
 
 -- a function that is refused after its body
 abbrev pub refused_function : {c : Context} {w : Live} {comments : List Comment} {at first : Position}
     {is_private : Bool} {x : Ended}
     → Form production (goal.Function (level_up (in_function c w)) comments at is_private) x
-    → Open production (goal.In (goal.FunctionStatement comments first at is_private) c w)
+    → Open production (In (goal.FunctionStatement comments first at is_private) c w)
 refused_function f = open_form (must (knows (must (part _ f knows_here))))
 
 -- a function as a statement, which is open or refused
 abbrev pub open_declares : {c : Context} {w : Live} (at : ℕ)
-    → Open production (goal.In (goal.FunctionStatement [] (place 1 at) (place 1 at) false) c w)
+    → Open production (In (goal.FunctionStatement [] (place 1 at) (place 1 at) false) c w)
     → Open production (In Statement c w)
-open_declares at f =
-    open_form (by_next (Sign token.Fn) (place 1 at) (any (Sign token.Fn) (place 1 at) (part_here f)))
+open_declares at f = open_form (by_next (Sign token.Fn) (place 1 at) (any (Sign token.Fn) (place 1 at) (part_here f)))
 
 -- a closure for which there is no room
-abbrev pub no_room : {c : Context} {w : Live} {at : Position} {by : Bars} → Open production (goal.In (goal.Closure at by) c w)
+abbrev pub no_room : {c : Context} {w : Live} {at : Position} {by : Bars}
+    → Open production (In (goal.Closure at by) c w)
 no_room = open_form knows_here
 
 -- a closure without parameters, where closures are operands, which is open
 abbrev pub open_bars : {c : Context} {w : Live} (at : ℕ) → Holds (may_be_closure c bars.Pair)
-    → Open production (goal.In (goal.Closure (place 1 at) bars.Pair) c w)
+    → Open production (In (goal.Closure (place 1 at) bars.Pair) c w)
     → FilledIn production (In Operand c w) (production (In Operand c w)) None
 open_bars {c} at so f =
     by_next (Sign token.Or) (place 1 at) (open_part (by_next (Sign token.Or) (place 1 at) (
@@ -216,7 +217,7 @@ open_bars {c} at so f =
 
 -- the same with parameters
 abbrev pub open_pipe : {c : Context} {w : Live} (at : ℕ) → Holds (may_be_closure c bars.List)
-    → Open production (goal.In (goal.Closure (place 1 at) bars.List) c w)
+    → Open production (In (goal.Closure (place 1 at) bars.List) c w)
     → FilledIn production (In Operand c w) (production (In Operand c w)) None
 open_pipe {c} at so f =
     by_next (Sign token.Pipe) (place 1 at) (open_part (by_next (Sign token.Pipe) (place 1 at) (
@@ -225,7 +226,7 @@ open_pipe {c} at so f =
 -- a closure with one parameter, whose statement is open
 abbrev pub open_doing : {c : Context} {w : Live} {at : Position} (name : Text) (column closing : ℕ)
     → Open production (In Statement (level_up (in_closure c w)) (parameters_live (name ∷ [])))
-    → Open production (goal.In (goal.Closure at bars.List) c w)
+    → Open production (In (goal.Closure at bars.List) c w)
 open_doing name column closing s =
     open_form (knows (part _ (form (by_next (Name name) (place 1 column) (any (Name name) (place 1 column) (must (
     by_next (Sign token.Pipe) (place 1 closing) (any (Sign token.Pipe) (place 1 closing) given)))))) (must (

@@ -5,10 +5,9 @@ use Rattle.rhai_lower.specs.Nodes as node
 use Rattle.rhai_lower.specs.declared.token.Token.TheVariants as token
 use Rattle.rhai_grammar.specs.Prelude.{Context, Live, Name, Node, Position, Sign, Text, absent, allows_looping}
 use Rattle.rhai_grammar.specs.Prelude.{below_global, block_statement, block_value, braces, defined_as, definition_tree}
-use Rattle.rhai_grammar.specs.Prelude.{ends_itself, export_tree, exported, expression, has_single_blocks}
-use Rattle.rhai_grammar.specs.Prelude.{import_tree, imported, in_block}
-use Rattle.rhai_grammar.specs.Prelude.{level_up, may_be_value, nowhere, place, present, return_statement}
-use Rattle.rhai_grammar.specs.Prelude.{statement_start, unit, with_kept}
+use Rattle.rhai_grammar.specs.Prelude.{ends_itself, export_tree, exported, expression, has_single_blocks, import_tree}
+use Rattle.rhai_grammar.specs.Prelude.{imported, in_block, level_up, may_be_value, nowhere, place, present}
+use Rattle.rhai_grammar.specs.Prelude.{return_statement, statement_start, unit, with_kept}
 use Rattle.rhai_grammar.specs.Statements.{statement_role}
 use Rattle.rhai_grammar.specs.declared.role.Closing.{Closing}
 use Rattle.rhai_grammar.specs.declared.role.Closing.TheVariants.{Brace, EndMark}
@@ -18,7 +17,8 @@ use Rattle.rhai_grammar.specs.declared.role.StatementRole.TheVariants as stands
 use Rattle.rhai_grammar.specs.declared.role.StatementStart.{StatementStart}
 use Rattle.rhai_grammar.specs.declared.role.StatementStart.TheVariants as first
 use Rattle.rhai_grammar.specs.Goals as goal
-use Rattle.rhai_grammar.specs.Goals.{In, Block, ExprStatement, Expression, Inside, Operand, Script, Statement, Statements}
+use Rattle.rhai_grammar.specs.Goals.{In, Block, ExprStatement, Expression, Inside, Operand, Script}
+use Rattle.rhai_grammar.specs.Goals.{Statement, Statements}
 use Rattle.rhai_grammar.specs.Forms.{Filled, Form, by_next, form, given, at_next, if_not, if_so, must, part, of_kind}
 use Rattle.rhai_grammar.specs.Forms.{any}
 use Rattle.rhai_grammar.specs.Promises.{Written}
@@ -69,7 +69,7 @@ evaluates {c} f so =
 -- a name with a value, after `let` or `const`
 abbrev pub valued : {c : Context} {w : Live} {at : Position} {constant exported : Bool} {x : Node} (name : Text)
     (column equals : ℕ) → Form production (In Expression (level_up c) w) x
-    → Form production (goal.In (goal.Definition at constant exported) c w)
+    → Form production (In (goal.Definition at constant exported) c w)
     (definition_tree constant exported at name x w, defined_as exported name constant w)
 valued name column equals f =
     form (part _ (form (if_so (any (Name name) (place 1 column) (must given)))) (
@@ -77,27 +77,27 @@ valued name column equals f =
 
 -- a name without a value
 abbrev pub bare : {c : Context} {w : Live} {at : Position} {constant exported : Bool} (name : Text) (column : ℕ)
-    → Form production (goal.In (goal.Definition at constant exported) c w)
+    → Form production (In (goal.Definition at constant exported) c w)
     (definition_tree constant exported at name (unit nowhere) w, defined_as exported name constant w)
 bare name column =
     form (part _ (form (if_so (any (Name name) (place 1 column) (must given)))) (part _ (form (if_not given)) given))
 
 -- a definition of a variable, and one of a constant
 abbrev pub lets : {c : Context} {w : Live} {f : node.Statement × Live} (at : ℕ)
-    → Form production (goal.In (goal.Definition (place 1 at) false false) (level_up c) w) f
+    → Form production (In (goal.Definition (place 1 at) false false) (level_up c) w) f
     → Form production (In Statement c w) f
 lets at f =
     form (by_next (Sign token.Let) (place 1 at) (any (Sign token.Let) (place 1 at) (must (part _ f given))))
 
 abbrev pub constant : {c : Context} {w : Live} {f : node.Statement × Live} (at : ℕ)
-    → Form production (goal.In (goal.Definition (place 1 at) true false) (level_up c) w) f
+    → Form production (In (goal.Definition (place 1 at) true false) (level_up c) w) f
     → Form production (In Statement c w) f
 constant at f =
     form (by_next (Sign token.Const) (place 1 at) (any (Sign token.Const) (place 1 at) (must (part _ f given))))
 
 -- a definition that is exported, with its `let`
 abbrev pub exports : {c : Context} {w : Live} {f : node.Statement × Live} (at keyword : ℕ)
-    → Form production (goal.In (goal.Definition (place 1 keyword) false true) (level_up (level_up c)) w) f
+    → Form production (In (goal.Definition (place 1 keyword) false true) (level_up (level_up c)) w) f
     → Form production (In Statement c w) f
 exports at keyword f =
     form (by_next (Sign token.Export) (place 1 at) (any (Sign token.Export) (place 1 at) (must (must (part _ (form (
@@ -189,13 +189,15 @@ written_as {x = x} f = (x, f)
 
 -- where a block has statements
 abbrev inside_as : {c : Context} {w : Live} {x : node.Statements} (b : Bool) → Holds (not b)
-    → Filled production (In Inside c w) (P.inside_by c w false) x → Filled production (In Inside c w) (P.inside_by c w b) x
+    → Filled production (In Inside c w) (P.inside_by c w false) x
+    → Filled production (In Inside c w) (P.inside_by c w b) x
 inside_as false so f = f
 inside_as true so f = absurd so
 
 -- where a block is one expression or assignment
 abbrev one_inside : {c : Context} {w : Live} {x : node.Statements} (b : Bool) → Holds b
-    → Filled production (In Inside c w) (P.inside_by c w true) x → Filled production (In Inside c w) (P.inside_by c w b) x
+    → Filled production (In Inside c w) (P.inside_by c w true) x
+    → Filled production (In Inside c w) (P.inside_by c w b) x
 one_inside true so f = f
 one_inside false so f = absurd so
 
@@ -207,7 +209,8 @@ many {c} so f = form (inside_as (has_single_blocks c) so (part _ f given))
 
 -- one expression or assignment in a block
 abbrev pub one : {c : Context} {w : Live} {x : node.Statement} → Holds (has_single_blocks c)
-    → Form production (In ExprStatement c w) x → Form production (In Inside c w) (node.one_statement x node.no_statements)
+    → Form production (In ExprStatement c w) x → Form production (In Inside c w) (node.one_statement x
+    node.no_statements)
 one {c} so f = form (one_inside (has_single_blocks c) so (part _ f given))
 
 -- a block after its `{`
@@ -217,9 +220,8 @@ closed f closing = form (part _ f (part _ (form (of_kind (Sign token.RightBrace)
 
 -- the block of a construct, from its `{`
 abbrev pub braced : {c : Context} {w : Live} {at : Position} {x : node.Block} (opening : ℕ)
-    → Form production (In (Block (place 1 opening)) (level_up c) w) x → Form production (goal.In (goal.Braced at) c w) x
-braced opening f =
-    form (part _ (form (of_kind (Sign token.LeftBrace) (place 1 opening) given)) (must (part _ f given)))
+    → Form production (In (Block (place 1 opening)) (level_up c) w) x → Form production (In (goal.Braced at) c w) x
+braced opening f = form (part _ (form (of_kind (Sign token.LeftBrace) (place 1 opening) given)) (must (part _ f given)))
 
 -- a block as a statement
 abbrev pub block_at : {c : Context} {w : Live} {x : node.Block} (at : ℕ)
@@ -242,18 +244,17 @@ block_operand {c} at so f t =
 
 -- a value after a jump; and none
 abbrev pub with_value : {c : Context} {w : Live} {at : Position} {x : Node}
-    → Form production (In Expression (level_up c) w) x → Form production (goal.In (goal.Jump at) c w) (present x)
+    → Form production (In Expression (level_up c) w) x → Form production (In (goal.Jump at) c w) (present x)
 with_value f = form (if_so (must (part _ f given)))
 
-abbrev pub without_value : {c : Context} {w : Live} {at : Position} → Form production (goal.In (goal.Jump at) c w) absent
+abbrev pub without_value : {c : Context} {w : Live} {at : Position} → Form production (In (goal.Jump at) c w) absent
 without_value = form (if_not (must given))
 
 -- a `return`
 abbrev pub returns : {c : Context} {w : Live} {x : node.Optional} (at : ℕ)
-    → Form production (goal.In (goal.Jump (place 1 at)) c w) x
+    → Form production (In (goal.Jump (place 1 at)) c w) x
     → Form production (In Statement c w) (return_statement x false (place 1 at), w)
-returns at f =
-    form (by_next (Sign token.Return) (place 1 at) (any (Sign token.Return) (place 1 at) (part _ f given)))
+returns at f = form (by_next (Sign token.Return) (place 1 at) (any (Sign token.Return) (place 1 at) (part _ f given)))
 
 -- where loops are allowed
 abbrev break_there : {c : Context} {w : Live} {x : node.Statement × Live} (b : Bool) → Holds b
@@ -264,7 +265,7 @@ break_there false so f = absurd so
 
 -- a `break`, where loops are allowed
 abbrev pub breaks : {c : Context} {w : Live} {x : node.Optional} (at : ℕ) → Holds (allows_looping c)
-    → Form production (goal.In (goal.Jump (place 1 at)) c w) x
+    → Form production (In (goal.Jump (place 1 at)) c w) x
     → Form production (In Statement c w) (node.break_loop x true (place 1 at), w)
 breaks {c} at so f =
     form (by_next (Sign token.Break) (place 1 at) (break_there (allows_looping c) so (

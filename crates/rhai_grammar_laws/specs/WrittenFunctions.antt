@@ -1,8 +1,7 @@
 -- Functions and closures in a form, with the names that they use. No clause is one of a production.
 use Rattle.std.specs.Prelude.{◌++◌, Bool, false, List, [], ◌∷◌, None, codes, map, refl, ◌≡◌}
-use Rattle.rhai_grammar.specs.Prelude.{Context, Ended, Live, Name, Node, Position, Sign, Text, Use}
-use Rattle.rhai_grammar.specs.Prelude.{closure_node, code, expression, is_among, name_tree}
-use Rattle.rhai_grammar.specs.Prelude.{number, parameters_live, place, variable}
+use Rattle.rhai_grammar.specs.Prelude.{Context, Ended, Live, Name, Node, Position, Sign, Text, Use, closure_node, code}
+use Rattle.rhai_grammar.specs.Prelude.{expression, is_among, name_tree, number, parameters_live, place, variable}
 use Rattle.rhai_lower.specs.Nodes.{Named}
 use Rattle.rhai_grammar.specs.Contexts.{nothing_live}
 use Rattle.rhai_grammar.specs.declared.role.Bars.TheVariants as bars
@@ -71,7 +70,8 @@ abbrev example_name : Node
 example_name = name_tree example_parameter.slots false (codes "b") (place 1 5)
 
 -- `b` as an expression before the end mark
-abbrev example_expression : (context : Context) → Form production (R.In R.Expression context example_parameter) example_name
+abbrev example_expression : (context : Context) → Form production (R.In R.Expression context example_parameter)
+    example_name
 example_expression context = form (at_next (Name (codes "b")) (place 1 5) (must (
     part example_name (form (by_next (Name (codes "b")) (place 1 5) (
     part example_name (form (by_next (Name (codes "b")) (place 1 5) (

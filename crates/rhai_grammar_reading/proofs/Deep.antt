@@ -4,19 +4,15 @@ use Rattle.rhai_grammar.specs.Prelude.{Lexeme, Sign, Position, Item, item, is_me
 use Rattle.rhai_grammar.specs.Prelude.{noted}
 use Rattle.rhai_lower.specs.declared.token.Token.TheVariants as token
 use Rattle.rhai_grammar_reading.specs.Histories.{State, adding, after_brace, next_item, after_peek, after_take}
-use Rattle.rhai_grammar_reading.specs.Histories.{with_captured, Outcome}
-use Rattle.rhai_grammar_reading.specs.Histories.{Done, Runs}
+use Rattle.rhai_grammar_reading.specs.Histories.{with_captured, Outcome, Done, Runs}
 use Rattle.rhai_grammar.specs.Goals.{is_counted}
 use Rattle.rhai_grammar_reading.specs.Reading.{Goal, Val, Prog, Ret, Peek, Take, TakeText, Know, Add, Note, Call}
-use Rattle.rhai_grammar_reading.specs.Reading.{CallLiteral}
-use Rattle.rhai_grammar_reading.specs.Reading.{CallApart, body}
+use Rattle.rhai_grammar_reading.specs.Reading.{CallLiteral, CallApart, body}
 use Rattle.rhai_grammar_reading.proofs.Dives.{Dives, dives_add, dives_apart, dives_apart_counted, dives_call}
-use Rattle.rhai_grammar_reading.proofs.Dives.{dives_counted, dives_know}
-use Rattle.rhai_grammar_reading.proofs.Dives.{dives_literal, dives_note, dives_peek, dives_ret, dives_take, dives_text}
-use Rattle.rhai_grammar_reading.proofs.Dives.{shallower}
+use Rattle.rhai_grammar_reading.proofs.Dives.{dives_counted, dives_know, dives_literal, dives_note, dives_peek}
+use Rattle.rhai_grammar_reading.proofs.Dives.{dives_ret, dives_take, dives_text, shallower}
 use Rattle.rhai_grammar_reading.proofs.Rules.{runs_add, runs_call, runs_call_apart, runs_call_literal, runs_know}
-use Rattle.rhai_grammar_reading.proofs.Rules.{runs_note}
-use Rattle.rhai_grammar_reading.proofs.Rules.{runs_peek, runs_ret, runs_take, runs_text}
+use Rattle.rhai_grammar_reading.proofs.Rules.{runs_note, runs_peek, runs_ret, runs_take, runs_text}
 
 -- p comes to o. Where the peak was z above the readers that are active, it is D z above them then.
 pub record Deep {A : Type 0} (D : ℕ → ℕ) (p : Prog A) (s : State) (o : Outcome A) : Type 0 where

@@ -6,23 +6,20 @@ use Rattle.rhai_grammar.specs.Prelude.{Lexeme, Sign, Position, is_memory, Item, 
 use Rattle.rhai_grammar.specs.Prelude.{out_of_memory, refusal, noted, Use, Ended, Library, with_ended, unexpected}
 use Rattle.rhai_grammar.specs.declared.due.DueToken.TheVariants.{RightBrace}
 use Rattle.rhai_grammar_reading.specs.Reading.{Goal, Val, Prog, Ret, Peek, Take, TakeText, Know, Add, Note, Call}
-use Rattle.rhai_grammar_reading.specs.Reading.{CallLiteral}
-use Rattle.rhai_grammar_reading.specs.Reading.{CallApart, body}
+use Rattle.rhai_grammar_reading.specs.Reading.{CallLiteral, CallApart, body}
 use Rattle.rhai_grammar.specs.Cursors as C
 use Rattle.rhai_grammar_reading.specs.Histories as H
 use Rattle.rhai_grammar_reading.specs.Histories.{State, Runs}
 use Rattle.rhai_grammar_reading.proofs.Joins.{Finished, Rest, flat, forget, level_calls, rest, unnested}
 use Rattle.rhai_grammar.specs.Goals.{is_counted}
 use Rattle.rhai_grammar_reading.specs.Nesting.{Nesting, entered}
-use Rattle.rhai_grammar_reading.specs.Running.{Caller, Done, Out, Progress, Refused, Unfinished, after_brace}
-use Rattle.rhai_grammar_reading.specs.Running.{and_then, next_item}
-use Rattle.rhai_grammar_reading.specs.Running.{adding, entering, exec, left_so, level, after_peek, need, nested}
-use Rattle.rhai_grammar_reading.specs.Running.{only_less, recast}
-use Rattle.rhai_grammar_reading.specs.Running.{result_of, after_take, with_captured, text_from}
+use Rattle.rhai_grammar_reading.specs.Running.{Caller, Done, Out, Progress, Refused, Unfinished, after_brace, and_then}
+use Rattle.rhai_grammar_reading.specs.Running.{next_item, adding, entering, exec, left_so, level, after_peek, need}
+use Rattle.rhai_grammar_reading.specs.Running.{nested, only_less, recast, result_of, after_take, with_captured}
+use Rattle.rhai_grammar_reading.specs.Running.{text_from}
 use Rattle.rhai_lower.specs.declared.token.Token.TheVariants as token
 use Rattle.rhai_grammar_reading.proofs.Grows.{AllGrow, Goes, Grows, GrowsSo, call_grows, goes_less, less_grows}
-use Rattle.rhai_grammar_reading.proofs.Grows.{level_grows}
-use Rattle.rhai_grammar_reading.proofs.Grows.{one_deeper, recast_grows}
+use Rattle.rhai_grammar_reading.proofs.Grows.{level_grows, one_deeper, recast_grows}
 
 -- ---- what is run, and how high the peak is then
 
@@ -148,14 +145,12 @@ all_grow : (n : ℕ) (g : Goal) (u : Progress) → AllGrow (only_less (level n) 
 all_grow n g u = less_grows (level n) (level_grows n) g u
 
 grown : {A : Type 0} (a m : ℕ) (o : Out A) → GrowsSo a m o → High m o
-grown a m (Done x t) h = inr h.peak
-grown a m (Refused e t) h = inr h.peak
 grown a m Unfinished h = tt
+grown a m _ h = inr h.peak
 
 topped : {A : Type 0} (a c : ℕ) (o : Out A) → GrowsSo a (2 ^ 64 - 1) o → High c o
-topped a c (Done x t) h = inl h.peak
-topped a c (Refused e t) h = inl h.peak
 topped a c Unfinished h = tt
+topped a c _ h = inl h.peak
 
 left_came : {A : Type 0} (v : A) (w : State) (o : Out A) → Came v w o → Came v w (left_so o)
 left_came v w (Done x t) h = h
@@ -163,9 +158,8 @@ left_came v w (Refused e t) h = absurd h
 left_came v w Unfinished h = tt
 
 pub left_high : {A : Type 0} (c : ℕ) (o : Out A) → High c o → High c (left_so o)
-left_high c (Done x t) h = h
-left_high c (Refused e t) h = h
 left_high c Unfinished h = tt
+left_high c _ h = h
 
 pub goes_above : (a : ℕ) (n : Nesting) → Goes a n → Above (a + 0) n
 goes_above a n (inl top) = inl top
@@ -260,9 +254,8 @@ recast_came v w (Refused e t) h = absurd h
 recast_came v w Unfinished h = tt
 
 recast_high : {A : Type 0} (c : ℕ) (o : Out A) → High c o → High c (recast o)
-recast_high c (Done x t) h = h
-recast_high c (Refused e t) h = h
 recast_high c Unfinished h = tt
+recast_high c _ h = h
 
 go_on : (a : ℕ) (n : Nesting) → Goes a n → Grows a 0 n
 go_on a n h = record { goes = h; peak = omega arith }

@@ -12,8 +12,7 @@ use Rattle.rhai_grammar_reading.specs.Reading.{In, Goal, Val, Script, Whole, Pro
 use Rattle.rhai_grammar_reading.specs.Running as R
 use Rattle.rhai_grammar_reading.specs.Running.{Progress, result_of}
 use Rattle.rhai_grammar_reading.specs.Histories.{State, and_then, next_item, after_peek, Outcome, Done, Refused}
-use Rattle.rhai_grammar_reading.specs.Histories.{Unfinished, exec}
-use Rattle.rhai_grammar_reading.specs.Histories.{calls, Runs}
+use Rattle.rhai_grammar_reading.specs.Histories.{Unfinished, exec, calls, Runs}
 use Rattle.rhai_grammar_reading.proofs.Joins.{Finished, Rest, calls_same, cursor, flat, forget, rest, run_runs}
 use Rattle.rhai_grammar_reading.proofs.Joins.{unnested}
 use Rattle.rhai_grammar_reading.proofs.Rules.{at}
@@ -97,16 +96,14 @@ came_done : (g : Goal) (s left : Progress) (x : Val g) (o : Outcome (Val g))
 came_done g s left x (Done y t) r e =
     let v : y ≡ x = cc in
     record { state = t; runs = subst (λ z. Runs (body g) (begun s) (Done z t)) v r; is = cc }
-came_done g s left x (Refused d t) r e = absurd cc
-came_done g s left x Unfinished r e = absurd cc
+came_done g s left x _ r e = absurd cc
 
 came_refused : (g : Goal) (s left : Progress) (d : Refusal) (o : Outcome (Val g))
     → Runs (body g) (begun s) o → forget o ≡ flat (R.Refused d left) → CameRefused g s left d
-came_refused g s left d (Done y t) r e = absurd cc
 came_refused g s left d (Refused f t) r e =
     let v : f ≡ d = cc in
     record { state = t; runs = subst (λ z. Runs (body g) (begun s) (Refused z t)) v r; is = cc }
-came_refused g s left d Unfinished r e = absurd cc
+came_refused g s left d _ r e = absurd cc
 
 done_came : (g : Goal) (s left : Progress) (x : Val g) → result_of g s ≡ R.Done x left
     → CameDone g s left x

@@ -7,8 +7,7 @@ use Rattle.rhai_grammar.specs.Prelude.{one_more}
 use Rattle.rhai_grammar_reading.specs.Reading.{Goal}
 use Rattle.rhai_grammar_reading.specs.Nesting.{Nesting, entered, left_one}
 use Rattle.rhai_grammar_reading.proofs.Kept.{AllKeep, KeptSo, call_keeps, less_keeps, level_keeps, recast_keeps}
-use Rattle.rhai_grammar_reading.specs.Running.{Caller, Out, Progress, level, nested, only_less}
-use Rattle.rhai_grammar_reading.specs.Running.{recast}
+use Rattle.rhai_grammar_reading.specs.Running.{Caller, Out, Progress, level, nested, only_less, recast}
 
 -- The peak is the greatest number that there is, or this many readers are active.
 abbrev pub Goes : ℕ → Nesting → Type 0

@@ -4,15 +4,12 @@ use Rattle.std.proofs.Common.{ℕ, zero, suc, ◌+◌, Bool, true, false, nat_lt
 use Rattle.rhai_grammar.specs.Prelude.{is_memory, is_due, is_text, noted}
 use Rattle.rhai_grammar.specs.declared.due.DueToken.TheVariants.{RightBrace}
 use Rattle.rhai_grammar_reading.specs.Reading.{Goal, Prog, Ret, Fail, Peek, Take, TakeText, Know, Add, Note, Call}
-use Rattle.rhai_grammar_reading.specs.Reading.{CallLiteral}
-use Rattle.rhai_grammar_reading.specs.Reading.{CallApart, body}
+use Rattle.rhai_grammar_reading.specs.Reading.{CallLiteral, CallApart, body}
 use Rattle.rhai_grammar.specs.Goals.{is_counted}
 use Rattle.rhai_grammar_reading.specs.Nesting.{Nesting, entered, left_one}
-use Rattle.rhai_grammar_reading.specs.Running.{Caller, Done, Out, Progress, Refused, Unfinished, after_brace}
-use Rattle.rhai_grammar_reading.specs.Running.{and_then, next_item}
-use Rattle.rhai_grammar_reading.specs.Running.{adding, entering, exec, left_so, level, after_peek, need, nested}
-use Rattle.rhai_grammar_reading.specs.Running.{only_less, recast}
-use Rattle.rhai_grammar_reading.specs.Running.{after_take, with_captured}
+use Rattle.rhai_grammar_reading.specs.Running.{Caller, Done, Out, Progress, Refused, Unfinished, after_brace, and_then}
+use Rattle.rhai_grammar_reading.specs.Running.{next_item, adding, entering, exec, left_so, level, after_peek, need}
+use Rattle.rhai_grammar_reading.specs.Running.{nested, only_less, recast, after_take, with_captured}
 
 abbrev pub KeptSo : {A : Type 0} → (ℕ → Nesting → Type 0) → ℕ → Out A → Type 0
 KeptSo P a (Done x t) = P a t.nesting
@@ -43,9 +40,8 @@ module _ (P : ℕ → Nesting → Type 0) (enter : (a : ℕ) (n : Nesting) → P
   then_keeps a Unfinished k h more = tt
 
   pub recast_keeps : {A : Type 0} (a : ℕ) (o : Out A) → KeptSo P a o → KeptSo P a (recast o)
-  recast_keeps a (Done x t) h = h
-  recast_keeps a (Refused e t) h = h
   recast_keeps a Unfinished h = tt
+  recast_keeps a _ h = h
 
   one_of : {A : Type 0} (a : ℕ) (c : Bool) (o p : Out A) → KeptSo P a o → KeptSo P a p → KeptSo P a (if c then o else p)
   one_of a true o p f g = f
@@ -53,8 +49,6 @@ module _ (P : ℕ → Nesting → Type 0) (enter : (a : ℕ) (n : Nesting) → P
 
   pub exec_keeps : {A : Type 0} (call : Caller) → AllKeep P call → (a : ℕ) (p : Prog A) (s : Progress)
       → P a s.nesting → KeptSo P a (exec call p s)
-  exec_keeps call all a (Ret x) s h = h
-  exec_keeps call all a (Fail e) s h = h
   exec_keeps call all a (Peek k) s h =
       one_of a (is_memory (next_item s).lexeme) _ _ h (exec_keeps call all a (k (next_item s).lexeme (next_item s).at) (after_peek s) h)
   exec_keeps call all a (Take p) s h =
@@ -79,6 +73,7 @@ module _ (P : ℕ → Nesting → Type 0) (enter : (a : ℕ) (n : Nesting) → P
   exec_keeps call all a (CallLiteral g k) s h =
       then_keeps a _ (λ v t. exec call (k v) t) (recast_keeps a _ (call_keeps call all g (is_counted g) a s h))
       (λ x t i. exec_keeps call all a (k x) t i)
+  exec_keeps call all a _ s h = h
 
   pub less_keeps : (call : Caller) → AllKeep P call → (g : Goal) (s : Progress) → AllKeep P (only_less call g s)
   unfolding only_less

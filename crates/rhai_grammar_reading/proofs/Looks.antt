@@ -11,8 +11,7 @@ pos_at s = (next_at code s).at
 
 abbrev pub operator_in : Follower → Option (ℕ × Bool)
 operator_in (Operator n right) = Some (n, right)
-operator_in (Unknown t) = None
-operator_in Other = None
+operator_in _ = None
 
 -- ---- verdicts that are fine
 

@@ -4,8 +4,7 @@ use Rattle.rhai_grammar.specs.Prelude.{Lexeme, Sign, Position, code, text, Item,
 use Rattle.rhai_grammar.specs.Prelude.{adding, apart, capturing, with_captured, Demands, Nothing}
 use Rattle.rhai_grammar.specs.Prelude.{Met, Ended, Library, Use, is_text}
 use Rattle.rhai_grammar_reading.specs.Reading.{Know, Add, Note, CallApart, Goal, Val, Prog, Ret, Peek, Take, TakeText}
-use Rattle.rhai_grammar_reading.specs.Reading.{Call}
-use Rattle.rhai_grammar_reading.specs.Reading.{CallLiteral, body}
+use Rattle.rhai_grammar_reading.specs.Reading.{Call, CallLiteral, body}
 use Rattle.rhai_grammar_reading.specs.Histories.{Done}
 use Rattle.rhai_grammar.specs.Goals.{is_counted}
 use Rattle.rhai_grammar_reading.proofs.Deep.{Deep, deep_add, deep_apart, deep_apart_counted, deep_call, deep_counted}

@@ -4,8 +4,7 @@ use Rattle.rhai_grammar.specs.Prelude.{is_memory_cause, is_memory, Readable}
 use Rattle.rhai_grammar_reading.specs.Reading.{Goal}
 use Rattle.rhai_grammar_reading.specs.Histories as H
 use Rattle.rhai_grammar_reading.specs.Histories.{State, next_item, after_peek, after_take, adding, after_brace}
-use Rattle.rhai_grammar_reading.specs.Histories.{with_captured, calls}
-use Rattle.rhai_grammar_reading.specs.Histories.{Outcome, Done, Refused, Unfinished}
+use Rattle.rhai_grammar_reading.specs.Histories.{with_captured, calls, Outcome, Done, Refused, Unfinished}
 use Rattle.rhai_grammar_reading.proofs.Programs.{Alike, Told, both_done, both_refused, calls_hold, no_end}
 use Rattle.rhai_grammar_reading.proofs.Recasts.{for_memory}
 

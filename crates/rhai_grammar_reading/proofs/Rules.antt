@@ -9,8 +9,7 @@ use Rattle.rhai_grammar_reading.specs.Histories.{adding, with_captured, State, n
 use Rattle.rhai_grammar_reading.specs.Histories.{Outcome, Done, Refused}
 use Rattle.rhai_grammar_reading.specs.Histories.{and_then, recast, after_brace, calls, exec, text_from, Runs}
 use Rattle.rhai_grammar_reading.specs.Reading.{Know, Add, Note, CallApart, Goal, Val, Prog, Ret, Peek, Take, TakeText}
-use Rattle.rhai_grammar_reading.specs.Reading.{Call}
-use Rattle.rhai_grammar_reading.specs.Reading.{CallLiteral, body}
+use Rattle.rhai_grammar_reading.specs.Reading.{Call, CallLiteral, body}
 
 -- a point at which the next token is asked for in code mode
 abbrev pub at : Point → Bool → State

@@ -1,10 +1,9 @@
 -- Soundness: what is shown of a reader's run, a rule for each step. Nothing here speaks of the grammar.
 use Rattle.std.proofs.Common.{◌≡◌, Bool, true, false, refl, sym, ap, ◌∙◌, subst, if◌then◌else◌, List}
 use Rattle.rhai_grammar.specs.Prelude.{Lexeme, Position, Cause, Refusal, refusal, out_of_memory, is_memory_cause}
-use Rattle.rhai_grammar.specs.Prelude.{unexpected, is_due, not_due, is_text, code, text, Item, Point, next_at}
-use Rattle.rhai_grammar.specs.Prelude.{past, is_memory, Verdict, Fine}
-use Rattle.rhai_grammar.specs.Prelude.{Wrong, Otherwise, Demands, ◌▸◌, Next}
-use Rattle.rhai_grammar.specs.Prelude.{verdict, Ended, Library, adding, apart, capturing, with_captured, Use}
+use Rattle.rhai_grammar.specs.Prelude.{unexpected, is_due, not_due, is_text, code, text, Item, Point, next_at, past}
+use Rattle.rhai_grammar.specs.Prelude.{is_memory, Verdict, Fine, Wrong, Otherwise, Demands, ◌▸◌, Next, verdict, Ended}
+use Rattle.rhai_grammar.specs.Prelude.{Library, adding, apart, capturing, with_captured, Use}
 use Rattle.rhai_grammar.specs.declared.due.DueToken.TheVariants.{RightBrace}
 use Rattle.rhai_grammar.specs.Demands as D
 use Rattle.rhai_grammar_reading.specs.Reading.{Know, Add, Note, CallApart, Goal, Val, Prog, Ret, Peek, Take, TakeText}

@@ -4,8 +4,8 @@ use Rattle.std.specs.Prelude.{◌≡◌, ℕ, Option, Some, None, if◌then◌el
 use Rattle.rhai_grammar.specs.Prelude.{Lexeme, Position, closure_count, is_due, is_end, not_due, refusal}
 use Rattle.rhai_grammar.specs.declared.due.DueToken.TheVariants as due_token
 use Rattle.rhai_grammar.specs.Views.{view}
-use Rattle.rhai_grammar.specs.Productions.{Production, give, never, of_kind, any, by_next, if_next, at_next, must, checked}
-use Rattle.rhai_grammar.specs.Productions.{knows, adds, uses, captures, part, literal, apart, in_text, due}
+use Rattle.rhai_grammar.specs.Productions.{Production, give, never, of_kind, any, by_next, if_next, at_next, must}
+use Rattle.rhai_grammar.specs.Productions.{checked, knows, adds, uses, captures, part, literal, apart, in_text, due}
 use Rattle.rhai_grammar.specs.Rules.{production}
 pub use Rattle.rhai_grammar.specs.Goals.{Goal, Given, What, Val, Script, In, Action, Alias, Arguments, Arm, ArmEnd}
 pub use Rattle.rhai_grammar.specs.Goals.{Arms, BinaryOp, Block, BlockEnd, BlockStart, Braced, Branch, Called, Case}
@@ -16,8 +16,8 @@ pub use Rattle.rhai_grammar.specs.Goals.{Guard, Import, Index, Initializer, Insi
 pub use Rattle.rhai_grammar.specs.Goals.{LoopNames, Member, NextKey, NextOperator, Operand, ParameterList, Parameters}
 pub use Rattle.rhai_grammar.specs.Goals.{Path, Postfix, Primary, RightOperand, Segments, Statement, Statements}
 pub use Rattle.rhai_grammar.specs.Goals.{TextAfter, VarName, Whole}
-pub use Rattle.rhai_grammar_reading.specs.Terms.{Ret, Fail, Peek, Take, TakeText, Know, Add, Note, Call, CallLiteral, CallApart}
-pub use Rattle.rhai_grammar_reading.specs.Terms.{Prog}
+pub use Rattle.rhai_grammar_reading.specs.Terms.{Ret, Fail, Peek, Take, TakeText, Know, Add, Note, Call, CallLiteral}
+pub use Rattle.rhai_grammar_reading.specs.Terms.{CallApart, Prog}
 
 -- What reads a production, as a program. It looks at each token once: `seen` is the next token, if it was looked at.
 abbrev pub run_from : {A : Type 0} → Production A → (seen : Option (Lexeme × Position)) → Prog A

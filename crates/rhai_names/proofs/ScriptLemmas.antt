@@ -12,10 +12,9 @@ use Rattle.rhai_grammar.specs.Cursors.{Cursor}
 use Rattle.rhai_grammar.specs.Imports.{is_among}
 use Rattle.rhai_grammar.specs.Causes.{is_for_memory}
 use Rattle.rhai_grammar.specs.Libraries.{Ended, Library}
-use Rattle.rhai_grammar.specs.Promises.{IsWrittenTo}
+use Rattle.rhai_grammar.specs.Promises.{IsWrittenTo, Written}
 use Rattle.rhai_grammar_reading.specs.Reading.{Script}
 use Rattle.rhai_grammar.specs.Promises as promised
-use Rattle.rhai_grammar.specs.Promises.{Written}
 use Rattle.rhai_grammar.specs.Rules.{production}
 use Rattle.rhai_grammar_laws.specs.UseLaws.{AllReadTheirUses, ReadsItsUses}
 use Rattle.rhai_grammar_laws.specs.WrittenFunctions as functions

@@ -10,10 +10,9 @@ use Rattle.rhai_lower.specs.declared.stmt.Stmt.{Stmt}
 use Rattle.rhai_grammar.specs.Contexts.{Context, Live}
 use Rattle.rhai_grammar.specs.Cursors.{Cursor}
 use Rattle.rhai_grammar.specs.Libraries.{Library}
-use Rattle.rhai_grammar.specs.Promises.{Returns}
+use Rattle.rhai_grammar.specs.Promises.{Returns, ReadsWhole}
 use Rattle.rhai_grammar.specs.declared.error.ParseError.{ParseError}
 use Rattle.rhai_grammar_reading.specs.Reading.{Script}
-use Rattle.rhai_grammar.specs.Promises.{ReadsWhole}
 use Rattle.rhai_grammar.specs.Rules.{production}
 use Rattle.rhai_grammar_laws.specs.WrittenFunctions as functions
 use Rattle.rhai_grammar_laws.specs.WrittenFunctions.{WrittenFunction, is_used}

@@ -1,13 +1,13 @@
 -- From the bound of a whole script to what is promised.
 use Rattle.std.proofs.Common.{IfOk, ◌≡◌, ℕ, ◌+◌, ◌*◌, ◌-◌, ◌^◌, ◌≤◌, max, min, subst, sym, ap, arith, Result, Ok, Err}
-use Rattle.std.proofs.Math.Nat.{le-max_left, le-max_right, max-le, min-le_left}
+use Rattle.std.proofs.Math.Nat.{le-max_left, le-max_right, max-le, min-le_left, le_refl}
 use Rattle.rhai_lower.specs.Nodes as node
 use Rattle.rhai_grammar.specs.Contexts.{Context, Live}
 use Rattle.rhai_grammar.specs.Settings.{one_more}
 use Rattle.rhai_grammar_reading.specs.Reading.{Script}
 use Rattle.rhai_grammar_reading.specs.Running.{Done, Progress, result_of}
 use Rattle.rhai_grammar.specs.declared.error.ParseError.{ParseError}
-use Rattle.rhai_base.specs.Counts.{Counts, with_entered, with_peak}
+use Rattle.rhai_base.specs.Counts.{Counts, with_entered, with_peak, counts_of}
 use Rattle.rhai_base.specs.declared.settings.ParseSettings.{ParseSettings}
 use Rattle.rhai_parser_shared.specs.Engines.{EngineValue}
 use Rattle.std.specs.Prelude.{◌⊎◌}
@@ -20,8 +20,6 @@ use Rattle.rhai_grammar_reading.proofs.Entries.{IsNew}
 use Rattle.rhai_grammar.specs.Forms.{depth}
 use Rattle.rhai_grammar.specs.Rules.{production}
 use Rattle.rhai_grammar_laws.proofs.Depth.{nests}
-use Rattle.std.proofs.Math.Nat.{le_refl}
-use Rattle.rhai_base.specs.Counts.{counts_of}
 use Rattle.rhai_base.specs.Frames.{FrameValue}
 use Rattle.rhai_parser_shared.specs.Heights.{Holds, IsWithin, Stays, function_height}
 use Rattle.rhai_parser_shared.specs.declared.shared.Shared.{Shared}

@@ -3,11 +3,10 @@ use Rattle.std.specs.Prelude.{◌≡◌, ◌⊎◌, ℕ, ◌+◌, ◌-◌, ◌*�
 use Rattle.rhai_grammar.specs.Contexts.{Context, Live}
 use Rattle.rhai_grammar.specs.Cursors.{Cursor}
 use Rattle.rhai_grammar.specs.Libraries.{Library}
-use Rattle.rhai_grammar.specs.Promises.{IsWritten}
+use Rattle.rhai_grammar.specs.Promises.{IsWritten, Written, written}
 use Rattle.rhai_grammar.specs.Settings.{one_more}
 use Rattle.rhai_grammar_reading.specs.Reading.{Script}
 use Rattle.rhai_grammar.specs.Forms.{depth}
-use Rattle.rhai_grammar.specs.Promises.{Written, written}
 use Rattle.rhai_grammar.specs.Rules.{production}
 use Rattle.rhai_base.specs.Counts.{Counts}
 use Rattle.rhai_base.specs.declared.settings.ParseSettings.{ParseSettings}

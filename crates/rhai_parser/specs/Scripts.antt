@@ -13,10 +13,9 @@ use Rattle.rhai_lower.specs.declared.stmt.Stmt.{Stmt}
 use Rattle.rhai_grammar.specs.Cursors.{Cursor}
 use Rattle.rhai_grammar.specs.Contexts.{Context, Live}
 use Rattle.rhai_grammar.specs.Libraries.{Library}
-use Rattle.rhai_grammar.specs.Promises.{Returns}
+use Rattle.rhai_grammar.specs.Promises.{Returns, ReadsWhole}
 use Rattle.rhai_grammar.specs.declared.error.ParseError.{ParseError}
 use Rattle.rhai_grammar_reading.specs.Reading.{In, Script, Whole}
-use Rattle.rhai_grammar.specs.Promises.{ReadsWhole}
 pub use Rattle.rhai_lower.specs.Optimizer.{Constants, Makes}
 use Rattle.rhai_lower.specs.declared.optimizer.OptimizationLevel.{OptimizationLevel}
 
@@ -63,7 +62,8 @@ Accepts makes constants level x library result = Returns (IsScriptOf makes const
 abbrev pub ReadsExpression : Makes → Context → Live → (before after : Library) → (start left : Cursor) → Constants
     → OptimizationLevel → Result AST ParseError → Type 0
 ReadsExpression makes context live before after start left constants level result =
-    ReadsWhole (In Whole context live) (λ f script. IsScriptOf makes constants level f.0 after script) before after start
+    ReadsWhole (In Whole context live) (λ f script. IsScriptOf makes constants level f.0 after script) before after
+        start
     left result
 
 -- A stream that is a script gives its statements, the functions that there are after it, and the slots and imports that

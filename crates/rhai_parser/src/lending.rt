@@ -6,11 +6,9 @@ ghost use Rattle.rhai_lower.specs.View.{statement_view, view};
 ghost use Rattle.rhai_base.specs.Frames.{SameSurroundings};
 ghost use Rattle.rhai_grammar.specs.Beginnings.{beginning};
 ghost use Rattle.rhai_parser_shared.specs.PlainPrimaries.{is_plain};
-ghost use Rattle.rhai_grammar_reading.specs.Running.{need, next_item};
+ghost use Rattle.rhai_grammar_reading.specs.Running.{next_item};
 ghost use Rattle.rhai_grammar.specs.Goals as what;
-ghost use Rattle.rhai_parser_shared.specs.Readers.{NestsAs, ReadsAs, under};
-ghost use Rattle.rhai_parser_shared.specs.Readers.{state_of, statements_of};
-ghost use Rattle.rhai_parser_shared.specs.Readers.{with_live};
+ghost use Rattle.rhai_parser_shared.specs.Readers.{NestsAs, ReadsAs, need_under, state_of, statements_of, with_live};
 ghost use Rattle.rhai_parser_shared.specs.Statements.{NestsStatement};
 ghost use Rattle.rhai_parser_shared.specs.Heights.{function_height};
 ghost use Rattle.rhai_trees.specs.Chains.{chain_view};
@@ -58,29 +56,30 @@ where
 {
     ghost lent = { λ s n.
         ((engine : _) (shared : _) (frame : _) (settings : _)
-        → need (under what.Expression engine.now frame.now settings) (state_of shared.now) ≡ n
+        → need_under what.Expression engine.now frame.now settings shared.now ≡ n
         → E.pre s.chain engine shared frame settings
         × ((result : _) (after : _) → E.post s.chain engine shared frame settings result after
         → NestsAs engine.now frame.now settings 1 what.Expression chain_view shared.now result after.now))
         × ((engine : _) (shared : _) (frame : _) (settings : _)
-        → need (under what.Statement engine.now frame.now settings) (state_of shared.now) ≡ n
+        → need_under what.Statement engine.now frame.now settings shared.now ≡ n
         → S.pre s.stmt engine shared frame settings
         × ((result : _) (after : _) (after_frame : _)
         → S.post s.stmt engine shared frame settings result after after_frame
         → NestsStatement engine.now frame.now after_frame.now settings shared.now result after.now))
         × ((engine : _) (shared : _) (frame : _) (settings : _) (kind : _)
-        → need (under (what.Construct settings.pos kind) engine.now frame.now settings) (state_of shared.now) ≡ n
+        → need_under (what.Construct settings.pos kind) engine.now frame.now settings shared.now ≡ n
         → C.pre s.construct engine shared frame settings kind
         × ((result : _) (after : _) → C.post s.construct engine shared frame settings kind result after
-        → NestsAs engine.now frame.now settings 5 (what.Construct settings.pos kind) statement_view shared.now result after.now))
+        → NestsAs engine.now frame.now settings 5 (what.Construct settings.pos kind) statement_view shared.now result
+            after.now))
         × ((engine : _) (shared : _) (frame : _) (settings : _)
-        → need (under what.Inside engine.now frame.now settings) (state_of shared.now) ≡ n
+        → need_under what.Inside engine.now frame.now settings shared.now ≡ n
         → B.pre s.inside engine shared frame settings
         × ((result : _) (after : _) → B.post s.inside engine shared frame settings result after
         → NestsAs engine.now frame.now settings 3 what.Inside statements_of shared.now result after.now))
         × ((engine : _) (shared : _) (frame : _) (settings : _)
         → is_plain (beginning (next_item (state_of shared.now)).lexeme) ≡ false
-        → need (under what.Primary engine.now frame.now settings) (state_of shared.now) ≡ n
+        → need_under what.Primary engine.now frame.now settings shared.now ≡ n
         → P.pre s.compound engine shared frame settings
         × ((result : _) (after : _) → P.post s.compound engine shared frame settings result after
         → NestsAs engine.now frame.now settings 2 what.Primary chain_view shared.now result after.now)) };
@@ -194,7 +193,8 @@ fn parse_construct(
     settings: ParseSettings,
     kind: Construct,
 ) -> ParseResult<Stmt>
-    ensures { NestsAs engine.now frame.now settings 5 (what.Construct settings.pos kind) statement_view shared.old result shared.new }
+    ensures { NestsAs engine.now frame.now settings 5 (what.Construct settings.pos kind) statement_view shared.old
+        result shared.new }
 {
     let readers = lent!();
     match kind {

@@ -25,7 +25,6 @@ use Rattle.rhai_base.specs.Settings.{settings_of}
 use Rattle.rhai_base.specs.declared.settings.ParseSettings.{ParseSettings}
 use Rattle.rhai_parser_shared.specs.Engines.{EngineValue, sizes_of}
 use Rattle.rhai_parser_shared.specs.Frames.{context_of, live_of}
-use Rattle.rhai_grammar.specs.Goals as what
 use Rattle.rhai_parser_shared.specs.Readers.{under}
 
 -- ---- operators
@@ -82,7 +81,7 @@ same_context engine frame c d e = ap (context_under engine frame) e
 -- What calls a name is read alike under settings that differ in their position alone.
 pub same_called : (engine : EngineValue) (frame : FrameValue) (c d : ParseSettings) (at : Position) (q r : Bool) (t : Progress)
     → settings_of c ≡ settings_of d → c.pos ≡ at → q ≡ r
-    → nested (result_of (under (what.Called c.pos q) engine frame c)) t ≡ nested (result_of (In (Called at r) (context_of engine frame d) (live_of frame))) t
+    → nested (result_of (under (Called c.pos q) engine frame c)) t ≡ nested (result_of (In (Called at r) (context_of engine frame d) (live_of frame))) t
 same_called engine frame c d at q r t same stands is =
     ap (λ k. nested (result_of (In (Called c.pos q) k (live_of frame))) t) (same_context engine frame c d same)
     ∙ ap (λ p. nested (result_of (In (Called p q) (context_of engine frame d) (live_of frame))) t) stands

@@ -19,8 +19,7 @@ use Rattle.rhai_grammar.specs.declared.filter.ExprFilter.{ExprFilter}
 use Rattle.rhai_grammar.specs.Productions.{give}
 use Rattle.rhai_grammar.specs.Rules.{binary_of, binary_on, follower_by, links_by, postfix_of, tested}
 use Rattle.rhai_grammar_reading.specs.Reading.{In, BinaryOp, Goal, Links, NextOperator, Peek, Postfix, Prog, Ret, Val}
-use Rattle.rhai_grammar_reading.specs.Reading.{body, run}
-use Rattle.rhai_grammar_reading.specs.Reading.{run_from}
+use Rattle.rhai_grammar_reading.specs.Reading.{body, run, run_from}
 use Rattle.rhai_grammar_reading.specs.Running.{Caller, Done, Progress, Refused, Unfinished, and_then, next_item, exec}
 use Rattle.rhai_grammar_reading.specs.Running.{guarded, after_peek, need, only_less, result_of}
 use Rattle.rhai_grammar_reading.proofs.Steps.{guarded_is, looked, run_step}

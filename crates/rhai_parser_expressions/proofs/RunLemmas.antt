@@ -26,7 +26,6 @@ use Rattle.rhai_grammar_reading.proofs.Outcomes.{binary_done, binary_refused}
 use Rattle.rhai_grammar_reading.proofs.Steps.{and_then_done, guarded_is}
 use Rattle.rhai_parser_shared.specs.Frames.{context_of, live_of}
 use Rattle.rhai_parser_shared.specs.Engines.{EngineValue}
-use Rattle.rhai_grammar.specs.Goals as what
 use Rattle.rhai_parser_shared.specs.Readers.{under}
 use Rattle.rhai_parser_expressions.specs.Runs.{NextIs, in_run, right_side, run_at}
 use Rattle.rhai_parser_expressions.proofs.ExprLemmas.{context_under, same_context}
@@ -95,7 +94,7 @@ pub record OneWaits (engine : EngineValue) (frame : FrameValue) (start : ParseSe
   pub less : 1 ≤ start.max_expr_depth → levels_left p.around.settings ≤ levels_left start
   pub refused : (e : Refusal) (t : Progress) → inside (R.Refused e t) ≡ around (R.Refused e t)
   pub joined : (y z : Node) (t : Progress) → left t.cursor.tokens ≤ bound → operator_result (lexeme p.op_token) p.pos (chain_view p.around.lhs) y ≡ Ok z
-      → inside (R.Done y t) ≡ around (result_of (under (what.BinaryOp p.around.settings.pos p.around.parent z) engine frame p.around.settings) t)
+      → inside (R.Done y t) ≡ around (result_of (under (BinaryOp p.around.settings.pos p.around.parent z) engine frame p.around.settings) t)
   pub missed : (y : Node) (e : Refusal) (t : Progress) → operator_result (lexeme p.op_token) p.pos (chain_view p.around.lhs) y ≡ Err e
       → inside (R.Done y t) ≡ around (R.Refused e t)
 
@@ -147,20 +146,20 @@ pub record Awaits (engine : EngineValue) (frame : FrameValue) (start : ParseSett
 
 -- before the first operator
 pub nothing_waits : {engine : EngineValue} {frame : FrameValue} {start c : ParseSettings} {bound : ℕ} {ps : List Pending} {at : Position} (parent : ℕ) (lhs : Node) (s : Progress) → ps ≡ [] → settings_of c ≡ settings_of start → c.pos ≡ at
-    → Awaits engine frame start bound ps (result_of (under (what.BinaryOp at parent lhs) engine frame start) s) (result_of (under (what.BinaryOp c.pos parent lhs) engine frame c) s)
+    → Awaits engine frame start bound ps (result_of (under (BinaryOp at parent lhs) engine frame start) s) (result_of (under (BinaryOp c.pos parent lhs) engine frame c) s)
 unfolding Waits
 nothing_waits {engine} {frame} {start} {c} {bound} {ps} {at} parent lhs s none same there = record {
   inside = λ o. o;
   waits = subst (λ rs. Waits engine frame start bound rs (λ o. o) (λ o. o)) (sym none) refl;
-  same = ap (λ (d : Context). result_of (In (BinaryOp at parent lhs) d (live_of frame)) s) (sym (same_context engine frame c start same)) ∙ ap (λ (q : Position). result_of (under (what.BinaryOp q parent lhs) engine frame c) s) (sym there);
+  same = ap (λ (d : Context). result_of (In (BinaryOp at parent lhs) d (live_of frame)) s) (sym (same_context engine frame c start same)) ∙ ap (λ (q : Position). result_of (under (BinaryOp q parent lhs) engine frame c) s) (sym there);
 }
 
 -- From s the operator of p comes next, and x is the operand after it; t is left, and the run that x begins has these
 -- settings.
 pub record Pushes (engine : EngineValue) (frame : FrameValue) (start settings side : ParseSettings) (parent : ℕ) (lhs : Node) (n : ℕ) (x : Node) (p : Pending) (s s1 t : Progress) : Type 0 where
-  pub found : result_of (under (what.BinaryOp settings.pos parent lhs) engine frame settings) s
-      ≡ exec (guarded (under (what.BinaryOp settings.pos parent lhs) engine frame settings) s) (run (binary_on (context_of engine frame settings) (live_of frame) settings.pos parent lhs n)) s1
-  pub reads : exec (guarded (under (what.BinaryOp settings.pos parent lhs) engine frame settings) s) (run (right_side (context_of engine frame settings) (live_of frame) settings.pos)) s1
+  pub found : result_of (under (BinaryOp settings.pos parent lhs) engine frame settings) s
+      ≡ exec (guarded (under (BinaryOp settings.pos parent lhs) engine frame settings) s) (run (binary_on (context_of engine frame settings) (live_of frame) settings.pos parent lhs n)) s1
+  pub reads : exec (guarded (under (BinaryOp settings.pos parent lhs) engine frame settings) s) (run (right_side (context_of engine frame settings) (live_of frame) settings.pos)) s1
       ≡ R.Done (lexeme p.op_token, p.pos, x) t
   pub short : left t.cursor.tokens + 1 ≤ left s.cursor.tokens
   pub left_side : chain_view p.around.lhs ≡ lhs
@@ -186,7 +185,7 @@ module _ {engine : EngineValue} {frame : FrameValue} {start settings side : Pars
   behind : R.Out Node → R.Out Node
   behind o = R.and_then o (λ v u. exec call (run (binary_next (level_up c) w parent lhs (lexeme p.op_token) p.pos v)) u)
 
-  side_read : result_of (under (what.BinaryOp settings.pos parent lhs) engine frame settings) s ≡ behind (result_of (under (what.BinaryOp side.pos n x) engine frame side) t)
+  side_read : result_of (under (BinaryOp settings.pos parent lhs) engine frame settings) s ≡ behind (result_of (under (BinaryOp side.pos n x) engine frame side) t)
   unfolding c w call behind
   side_read =
       let same : context_of engine frame side ≡ level_up c = ap (context_under engine frame) h.side_raised in
@@ -198,7 +197,7 @@ module _ {engine : EngineValue} {frame : FrameValue} {start settings side : Pars
       ∙ ap (λ (d : Context). behind (result_of (In (BinaryOp side.pos n x) d w) t)) (sym same)
 
   joined_so : (y z : Node) (u : Progress) → left u.cursor.tokens ≤ left t.cursor.tokens → operator_result (lexeme p.op_token) p.pos (chain_view p.around.lhs) y ≡ Ok z
-      → behind (R.Done y u) ≡ result_of (under (what.BinaryOp p.around.settings.pos p.around.parent z) engine frame p.around.settings) u
+      → behind (R.Done y u) ≡ result_of (under (BinaryOp p.around.settings.pos p.around.parent z) engine frame p.around.settings) u
   unfolding c w call behind
   joined_so y z u less is =
       let same : context_of engine frame p.around.settings ≡ level_up c = ap (context_under engine frame) h.next_raised in
@@ -221,8 +220,8 @@ module _ {engine : EngineValue} {frame : FrameValue} {start settings side : Pars
     missed = λ y e u is. ap inside (binary_refused call (level_up c) w parent lhs (lexeme p.op_token) p.pos y e u (ap (λ m. operator_result (lexeme p.op_token) p.pos m y) (sym h.left_side) ∙ is));
   }
 
-  pushed : {ps qs : List Pending} {whole : R.Out Node} → Awaits engine frame start (left s.cursor.tokens) ps whole (result_of (under (what.BinaryOp settings.pos parent lhs) engine frame settings) s) → qs ≡ ps ++ p ∷ []
-      → Awaits engine frame start (left t.cursor.tokens) qs whole (result_of (under (what.BinaryOp side.pos n x) engine frame side) t)
+  pushed : {ps qs : List Pending} {whole : R.Out Node} → Awaits engine frame start (left s.cursor.tokens) ps whole (result_of (under (BinaryOp settings.pos parent lhs) engine frame settings) s) → qs ≡ ps ++ p ∷ []
+      → Awaits engine frame start (left t.cursor.tokens) qs whole (result_of (under (BinaryOp side.pos n x) engine frame side) t)
   pushed {ps} {qs} {whole} a e =
       let inside : R.Out Node → R.Out Node = λ o. a.inside (behind o) in
       let fewer_waits = fewer engine frame start (left s.cursor.tokens) (left t.cursor.tokens) ps (λ o. o) a.inside (let short = h.short in omega (arith, short)) a.waits in
@@ -233,10 +232,10 @@ module _ {engine : EngineValue} {frame : FrameValue} {start settings side : Pars
         same = a.same ∙ ap a.inside side_read;
       }
 
-  pub pushed_as : {ps qs : List Pending} {whole : R.Out Node} {m : ℕ} → m ≡ n → Awaits engine frame start (left s.cursor.tokens) ps whole (result_of (under (what.BinaryOp settings.pos parent lhs) engine frame settings) s) → qs ≡ ps ++ p ∷ []
-      → Awaits engine frame start (left t.cursor.tokens) qs whole (result_of (under (what.BinaryOp side.pos m x) engine frame side) t)
+  pub pushed_as : {ps qs : List Pending} {whole : R.Out Node} {m : ℕ} → m ≡ n → Awaits engine frame start (left s.cursor.tokens) ps whole (result_of (under (BinaryOp settings.pos parent lhs) engine frame settings) s) → qs ≡ ps ++ p ∷ []
+      → Awaits engine frame start (left t.cursor.tokens) qs whole (result_of (under (BinaryOp side.pos m x) engine frame side) t)
   pushed_as {ps} {qs} {whole} same a e =
-      subst (λ k. Awaits engine frame start (left t.cursor.tokens) qs whole (result_of (under (what.BinaryOp side.pos k x) engine frame side) t)) (sym same) (pushed a e)
+      subst (λ k. Awaits engine frame start (left t.cursor.tokens) qs whole (result_of (under (BinaryOp side.pos k x) engine frame side) t)) (sym same) (pushed a e)
 
 module _ {engine : EngineValue} {frame : FrameValue} {start : ParseSettings} {bound : ℕ} {ps : List Pending} {whole now : R.Out Node} (a : Awaits engine frame start bound ps whole now) where
   pub awaits_refused : {e : Refusal} {t : Progress} → now ≡ R.Refused e t → whole ≡ R.Refused e t
@@ -253,7 +252,7 @@ module _ {engine : EngineValue} {frame : FrameValue} {start : ParseSettings} {bo
     last = one_less engine frame start bound qs p (λ o. o) a.inside (subst (λ rs. Waits engine frame start bound rs (λ o. o) a.inside) e a.waits)
 
     popped : {z : Node} → left t.cursor.tokens ≤ bound → operator_result (lexeme p.op_token) p.pos (chain_view p.around.lhs) y ≡ Ok z
-        → Awaits engine frame start (left t.cursor.tokens) qs whole (result_of (under (what.BinaryOp p.around.settings.pos p.around.parent z) engine frame p.around.settings) t)
+        → Awaits engine frame start (left t.cursor.tokens) qs whole (result_of (under (BinaryOp p.around.settings.pos p.around.parent z) engine frame p.around.settings) t)
     popped {z} less joined = record {
       inside = last.0;
       waits = fewer engine frame start bound (left t.cursor.tokens) qs (λ o. o) last.0 less last.1;
@@ -261,10 +260,10 @@ module _ {engine : EngineValue} {frame : FrameValue} {start : ParseSettings} {bo
     }
 
     pub popped_as : {z : Node} {d : ParseSettings} {m : ℕ} → d ≡ p.around.settings → m ≡ p.around.parent → left t.cursor.tokens ≤ bound → operator_result (lexeme p.op_token) p.pos (chain_view p.around.lhs) y ≡ Ok z
-        → Awaits engine frame start (left t.cursor.tokens) qs whole (result_of (under (what.BinaryOp d.pos m z) engine frame d) t)
+        → Awaits engine frame start (left t.cursor.tokens) qs whole (result_of (under (BinaryOp d.pos m z) engine frame d) t)
     popped_as {z} {d} {m} settings parent less joined =
-        subst (λ k. Awaits engine frame start (left t.cursor.tokens) qs whole (result_of (under (what.BinaryOp d.pos k z) engine frame d) t)) (sym parent)
-        (subst (λ (f : ParseSettings). Awaits engine frame start (left t.cursor.tokens) qs whole (result_of (under (what.BinaryOp f.pos p.around.parent z) engine frame f) t)) (sym settings) (popped less joined))
+        subst (λ k. Awaits engine frame start (left t.cursor.tokens) qs whole (result_of (under (BinaryOp d.pos k z) engine frame d) t)) (sym parent)
+        (subst (λ (f : ParseSettings). Awaits engine frame start (left t.cursor.tokens) qs whole (result_of (under (BinaryOp f.pos p.around.parent z) engine frame f) t)) (sym settings) (popped less joined))
 
     pub popped_refused : {r : Refusal} → operator_result (lexeme p.op_token) p.pos (chain_view p.around.lhs) y ≡ Err r → whole ≡ R.Refused r t
     popped_refused {r} refused = a.same ∙ ap a.inside is ∙ last.2.missed y r t refused ∙ all_refused engine frame start bound qs (λ o. o) last.0 last.1 r t

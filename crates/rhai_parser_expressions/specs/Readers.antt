@@ -41,7 +41,8 @@ abbrev pub index_of : Option (Bor Chain) → What
 index_of indexed = Index (option_map (λ x. chain_view x.now) indexed)
 
 -- Links after this operand are read, and what that requires.
-abbrev pub LendsLinks : {R : Type 0} → (R → ℕ → Type 0) → Reader R → Chain → FrameValue → ParseSettings → Shared → Type 0
+abbrev pub LendsLinks : {R : Type 0} → (R → ℕ → Type 0) → Reader R → Chain → FrameValue → ParseSettings → Shared → Type
+    0
 LendsLinks lent reader lhs frame settings =
     Covers (lent reader.readers) (links (chain_view lhs) reader.engine.now frame settings)
 

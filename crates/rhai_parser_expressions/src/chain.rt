@@ -36,7 +36,8 @@ impl<R: LentReaders> Reader<'_, R> {
         qualified: bool,
     ) -> ParseResult<Call>
         requires lent { Lends R.lent self.now (what.Called settings.pos qualified) frame.now settings shared.old }
-        ensures { Reads self.now frame.now settings 1 (what.Called settings.pos qualified) call_view shared.old result shared.new }
+        ensures { Reads self.now frame.now settings 1 (what.Called settings.pos qualified) call_view shared.old result
+            shared.new }
     {
         let (token, pos) = peek(shared.input)?;
         let pos = *pos;

@@ -102,7 +102,8 @@ impl<R: LentReaders> Reader<'_, R> {
         settings: ParseSettings,
     ) -> ParseResult<Vec<Expr>>
         requires lent { Lends R.lent self.now (what.Arguments settings.pos) frame.now settings shared.old }
-        ensures { Reads self.now frame.now settings 0 (what.Arguments settings.pos) views_of shared.old result shared.new }
+        ensures { Reads self.now frame.now settings 0 (what.Arguments settings.pos) views_of shared.old result
+            shared.new }
     {
         let (token, pos) = peek(shared.input)?;
         if is_no_argument(token) {
@@ -156,7 +157,8 @@ impl<R: LentReaders> Reader<'_, R> {
         place: OperandRole,
     ) -> ParseResult<Chain>
         requires lent { Lends R.lent self.now (what.RightOperand place) frame.now settings shared.old }
-        ensures { Reads self.now frame.now settings 4 (what.RightOperand place) chain_view shared.old result shared.new }
+        ensures { Reads self.now frame.now settings 4 (what.RightOperand place) chain_view shared.old result
+            shared.new }
     {
         let alloc = self.engine.alloc();
         let (token, pos) = peek(shared.input)?;

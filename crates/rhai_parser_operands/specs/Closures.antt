@@ -18,15 +18,6 @@ use Rattle.rhai_base.specs.declared.settings.ParseSettings.{ParseSettings}
 use Rattle.rhai_parser_shared.specs.Frames.{context_of, live_of}
 use Rattle.rhai_parser_shared.specs.Engines.{EngineValue}
 
--- a closure after its first token, where the settings stand
-abbrev pub closure : Bars → EngineValue → FrameValue → ParseSettings → Goal
-closure by engine frame settings =
-    reading.In (reading.Closure settings.pos by) (context_of engine frame settings) (live_of frame)
-
--- the body of a closure, in a frame of its own
-abbrev pub closure_body : EngineValue → FrameValue → ParseSettings → Goal
-closure_body engine frame settings = reading.In reading.ClosureBody (context_of engine frame settings) (live_of frame)
-
 -- what the parameters of a closure come to
 abbrev pub closure_parameters : Bars → Progress → Out (List Text)
 closure_parameters bars.Pair s = Done [] s

@@ -6,12 +6,13 @@ ghost use Rattle.rhai_trees.specs.Chains.{chain_view};
 ghost use Rattle.rhai_base.specs.Uses.{uses_of};
 ghost use Rattle.rhai_grammar.specs.Libraries.{closure_count};
 ghost use Rattle.rhai_grammar.specs.Rules.{closure_end};
+ghost use Rattle.rhai_grammar.specs.Goals as what;
 ghost use Rattle.rhai_grammar_reading.specs.Reading.{run};
 ghost use Rattle.rhai_grammar_reading.specs.Running.{Caller, Gives, exec};
 ghost use Rattle.rhai_parser_shared.specs.Frames.{context_of, live_of};
 ghost use Rattle.rhai_parser_shared.specs.Engines.{EngineValue};
 ghost use Rattle.rhai_parser_shared.specs.Readers.{GoesOn, names_of, state_of};
-ghost use Rattle.rhai_parser_operands.specs.Closures.{UsesAll, closure, closure_body, closure_parameters};
+ghost use Rattle.rhai_parser_operands.specs.Closures.{UsesAll, closure_parameters};
 ghost use Rattle.rhai_parser_shared.specs.Heights.{Ends, Steady, function_height};
 ghost use Rattle.rhai_parser_operands.specs.Readers.{Lends, Reads};
 
@@ -37,8 +38,9 @@ impl<R: LentReaders> Reader<'_, R> {
         settings: ParseSettings,
         bars: Bars,
     ) -> ParseResult<Chain>
-        requires lent { Lends R.lent self.now (closure bars) frame.now settings shared.old }
-        ensures { Reads self.now frame.now settings 0 (closure bars) chain_view shared.old result shared.new }
+        requires lent { Lends R.lent self.now (what.Closure settings.pos bars) frame.now settings shared.old }
+        ensures { Reads self.now frame.now settings 0 (what.Closure settings.pos bars) chain_view shared.old result
+            shared.new }
     {
         let alloc = self.engine.alloc();
         let limit = self.engine.max_functions();
@@ -64,8 +66,8 @@ impl<R: LentReaders> Reader<'_, R> {
         frame: &mut Frame<'_>,
         settings: ParseSettings,
     ) -> ParseResult<Stmt>
-        requires lent { Lends R.lent self.now closure_body frame.old settings shared.old }
-        ensures { Reads self.now frame.old settings (2 + function_height self.now.engine.now settings) closure_body
+        requires lent { Lends R.lent self.now what.ClosureBody frame.old settings shared.old }
+        ensures { Reads self.now frame.old settings (2 + function_height self.now.engine.now settings) what.ClosureBody
             statement_view shared.old result shared.new }
     {
         if let Some(end) = ends_here(shared.input)? {

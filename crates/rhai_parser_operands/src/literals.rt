@@ -33,7 +33,8 @@ impl<R: LentReaders> Reader<'_, R> {
         settings: ParseSettings,
     ) -> ParseResult<Vec<Expr>>
         requires lent { Lends R.lent self.now (what.Elements settings.pos no_nodes) frame.now settings shared.old }
-        ensures { Reads self.now frame.now settings 0 (what.Elements settings.pos no_nodes) views_of shared.old result shared.new }
+        ensures { Reads self.now frame.now settings 0 (what.Elements settings.pos no_nodes) views_of shared.old result
+            shared.new }
     {
         let limit = self.engine.max_array_size();
         let mut items = Vec::new(self.engine.alloc());
@@ -66,7 +67,8 @@ impl<R: LentReaders> Reader<'_, R> {
         settings: ParseSettings,
     ) -> ParseResult<Vec<(Ident, Expr)>>
         requires lent { Lends R.lent self.now (what.Fields settings.pos no_properties) frame.now settings shared.old }
-        ensures { Reads self.now frame.now settings 0 (what.Fields settings.pos no_properties) properties_of shared.old result
+        ensures { Reads self.now frame.now settings 0 (what.Fields settings.pos no_properties) properties_of shared.old
+            result
             shared.new }
     {
         let mut properties = NamedList::new(self.engine.alloc());
@@ -95,7 +97,8 @@ impl<R: LentReaders> Reader<'_, R> {
         first: RcStr,
     ) -> ParseResult<Vec<Expr>>
         requires lent { Lends R.lent self.now (segments_after first settings.pos) frame.now settings shared.old }
-        ensures { Reads self.now frame.now settings 0 (segments_after first settings.pos) views_of shared.old result shared.new }
+        ensures { Reads self.now frame.now settings 0 (segments_after first settings.pos) views_of shared.old result
+            shared.new }
     {
         let mut segments = Vec::new(self.engine.alloc());
         push_text(&mut segments, first, settings.pos)?;

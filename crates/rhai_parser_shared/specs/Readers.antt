@@ -140,6 +140,10 @@ pub record NestsAs (engine : EngineValue) (frame : FrameValue) (settings : Parse
   pub stays : Stays engine frame settings height old new
   pub reads : NestsGoal (under what engine frame settings) view old result new
 
+-- what a call for this needs
+abbrev pub need_under : What → EngineValue → FrameValue → ParseSettings → Shared → ℕ
+need_under what engine frame settings shared = need (under what engine frame settings) (state_of shared)
+
 -- Calls of each need below that of this goal may be made.
 abbrev pub Covers : (ℕ → Type 0) → Goal → Shared → Type 0
 Covers lent g shared = UpTo lent (need g (state_of shared))

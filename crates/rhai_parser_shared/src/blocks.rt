@@ -24,8 +24,10 @@ pub fn parse_block<R: LentReaders>(
     frame: &Frame<'_>,
     settings: ParseSettings,
 ) -> ParseResult<StmtBlock>
-    requires lent { Covers (R.lent readers.now) (under (what.Block settings.pos) engine.now frame.now settings) shared.old }
-    ensures { ReadsAs engine.now frame.now settings 3 (what.Block settings.pos) block_view shared.old result shared.new }
+    requires lent { Covers (R.lent readers.now) (under (what.Block settings.pos) engine.now frame.now settings)
+        shared.old }
+    ensures { ReadsAs engine.now frame.now settings 3 (what.Block settings.pos) block_view shared.old result
+            shared.new }
 {
     let statements = readers.parse_block_inside(engine, shared, frame, settings)?;
     let end = end_block(engine.alloc(), shared.input)?;

@@ -7,18 +7,16 @@ use Rattle.rhai_lower.specs.Nodes as node
 use Rattle.rhai_lower.specs.declared.position.Position.{Position}
 use Rattle.rhai_grammar.specs.Causes as cause
 use Rattle.rhai_grammar.specs.Causes.{out_of_memory, refusal}
-use Rattle.rhai_grammar.specs.Comments.{Comment}
+use Rattle.rhai_grammar.specs.Comments.{Comment, comment_of as comment_at}
 use Rattle.rhai_grammar.specs.Contexts.{Context, Live, is_global}
 use Rattle.rhai_grammar.specs.Cursors.{left}
 use Rattle.rhai_grammar.specs.Delivered.{is_memory}
 use Rattle.rhai_grammar.specs.Statements.{is_comment, statement_start}
 use Rattle.rhai_grammar.specs.declared.role.StatementStart.{StatementStart}
 use Rattle.rhai_grammar.specs.declared.role.StatementStart.TheVariants as start
-use Rattle.rhai_grammar.specs.Comments.{comment_of as comment_at}
 use Rattle.rhai_grammar.specs.Rules.{comments_of as comments_after, documented, documented_by, fn_of, statement_by}
 use Rattle.rhai_grammar_reading.specs.Reading.{In, Call, Comments, Fail, FunctionStatement, Goal, Peek, Prog, Ret}
-use Rattle.rhai_grammar_reading.specs.Reading.{Statement, Take}
-use Rattle.rhai_grammar_reading.specs.Reading.{run, run_from}
+use Rattle.rhai_grammar_reading.specs.Reading.{Statement, Take, run, run_from}
 use Rattle.rhai_parser_statements.specs.Readers.{fn_on, private_on, seen}
 use Rattle.rhai_grammar_reading.specs.Running as R
 use Rattle.rhai_grammar_reading.specs.Running.{Done, Progress, and_then, next_item, exec, guarded, after_peek, nested}

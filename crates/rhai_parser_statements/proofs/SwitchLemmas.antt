@@ -16,14 +16,11 @@ use Rattle.rhai_grammar.specs.declared.error.ParseError.{ParseError}
 use Rattle.rhai_lower.specs.declared.position.Position.{Position}
 use Rattle.rhai_grammar.specs.Rules.{arm_ends, arm_on, default_ends}
 use Rattle.rhai_grammar_reading.specs.Reading.{In, Action, Arm, ArmEnd, CaseGuard, Cases, DefaultArm, DefaultEnd, Fail}
-use Rattle.rhai_grammar_reading.specs.Reading.{Prog, Take}
-use Rattle.rhai_grammar_reading.specs.Reading.{run}
+use Rattle.rhai_grammar_reading.specs.Reading.{Prog, Take, run}
 use Rattle.rhai_grammar_reading.proofs.Steps.{guarded_is, nested_is, step_arm, step_default_arm}
 use Rattle.rhai_grammar_reading.specs.Running as R
 use Rattle.rhai_grammar_reading.specs.Running.{Caller, Fails, Gives, Progress, after_peek, after_take, and_then, exec}
-use Rattle.rhai_grammar_reading.specs.Running.{guarded}
-use Rattle.rhai_grammar_reading.specs.Running.{nested, next_item, recast}
-use Rattle.rhai_grammar_reading.specs.Running.{result_of}
+use Rattle.rhai_grammar_reading.specs.Running.{guarded, nested, next_item, recast, result_of}
 
 not_memory : (a b : Bool) → (a ≡ true → b ≡ true) → b ≡ false → a ≡ false
 not_memory false b h e = refl

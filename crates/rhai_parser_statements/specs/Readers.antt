@@ -22,6 +22,7 @@ use Rattle.rhai_grammar.specs.declared.role.Construct.{Construct}
 use Rattle.rhai_grammar.specs.declared.role.Construct.TheVariants as construct
 use Rattle.rhai_grammar.specs.declared.role.StatementStart.TheVariants as start
 use Rattle.rhai_grammar.specs.Rules.{fn_of, private_of, statement_by}
+use Rattle.rhai_grammar.specs.Goals as what
 use Rattle.rhai_grammar_reading.specs.Reading.{Cases, FunctionStatement, Given, Goal, Prog, Take, What, run, run_from}
 use Rattle.rhai_grammar_reading.specs.Running.{Progress, next_item}
 use Rattle.rhai_base.specs.Comments.{comments_of}
@@ -45,7 +46,13 @@ abbrev pub Reads : {R : Type 0} → (reader : Reader R) → (frame : FrameValue)
     → (what : What) → {X : Type 0} → (X → Given what) → Shared → Result X ParseError → Shared → Type 0
 Reads reader frame settings height what view = ReadsAs reader.engine.now frame settings height what view
 
--- The same of a reader that counts.
+-- A construct of this kind is read after its first token, where the settings stand.
+abbrev pub ReadsConstruct : {R : Type 0} → Reader R → FrameValue → ParseSettings → Construct
+    → Shared → Result Stmt ParseError → Shared → Type 0
+ReadsConstruct reader frame settings kind = Reads reader frame settings 4 (what.Construct settings.pos kind)
+    statement_view
+
+-- What a reader promises that counts.
 abbrev pub Nests : {R : Type 0} → (reader : Reader R) → (frame : FrameValue) → (settings : ParseSettings) → (height : ℕ)
     → (what : What) → {X : Type 0} → (X → Given what) → Shared → Result X ParseError → Shared → Type 0
 Nests reader frame settings height what view = NestsAs reader.engine.now frame settings height what view

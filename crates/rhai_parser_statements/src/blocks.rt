@@ -26,7 +26,8 @@ impl<R: LentReaders> Reader<'_, R> {
         settings: ParseSettings,
     ) -> ParseResult<Stmt>
         requires lent { Lends R.lent self.now (what.Construct settings.pos Block) frame.now settings shared.old }
-        ensures { Nests self.now frame.now settings 5 (what.Construct settings.pos Block) statement_view shared.old result shared.new }
+        ensures { Nests self.now frame.now settings 5 (what.Construct settings.pos Block) statement_view shared.old
+            result shared.new }
     {
         let block = nested!(
             shared,
@@ -45,7 +46,8 @@ impl<R: LentReaders> Reader<'_, R> {
         settings: ParseSettings,
     ) -> ParseResult<StmtBlock>
         requires lent { Lends R.lent self.now (what.Block settings.pos) frame.now settings shared.old }
-        ensures { Reads self.now frame.now settings 3 (what.Block settings.pos) block_view shared.old result shared.new }
+        ensures { Reads self.now frame.now settings 3 (what.Block settings.pos) block_view shared.old result
+            shared.new }
     {
         let statements = nested!(shared, self.parse_block_inside(shared, frame, settings))?;
         let end = end_block(self.engine.alloc(), shared.input)?;

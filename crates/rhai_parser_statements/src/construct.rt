@@ -8,7 +8,7 @@ ghost use Rattle.rhai_grammar.specs.declared.role.Construct.TheVariants.{Do, For
 ghost use Rattle.rhai_base.specs.Constructs.{loop_view};
 ghost use Rattle.rhai_grammar.specs.Goals as what;
 ghost use Rattle.rhai_parser_statements.specs.Frames.{catch_view, in_catch, in_loop};
-ghost use Rattle.rhai_parser_statements.specs.Readers.{Lends, Reads, is_block};
+ghost use Rattle.rhai_parser_statements.specs.Readers.{Lends, Reads, ReadsConstruct, is_block};
 
 use crate::construct::control::{catch_frame, end_guard, end_iterated, loop_frame};
 use crate::reader::Reader;
@@ -38,7 +38,7 @@ impl<R: LentReaders> Reader<'_, R> {
     ) -> ParseResult<Stmt>
         requires keyword { is_block kind ≡ false }
         requires lent { Lends R.lent self.now (what.Construct settings.pos kind) frame.now settings shared.old }
-        ensures { Reads self.now frame.now settings 4 (what.Construct settings.pos kind) statement_view shared.old result shared.new }
+        ensures { ReadsConstruct self.now frame.now settings kind shared.old result shared.new }
     {
         match kind {
             Construct::Block => unreachable!(),
@@ -62,7 +62,8 @@ impl<R: LentReaders> Reader<'_, R> {
         settings: ParseSettings,
     ) -> ParseResult<Stmt>
         requires lent { Lends R.lent self.now (what.Conditional settings.pos) frame.now settings shared.old }
-        ensures { Reads self.now frame.now settings 2 (what.Conditional settings.pos) statement_view shared.old result shared.new }
+        ensures { Reads self.now frame.now settings 2 (what.Conditional settings.pos) statement_view shared.old result
+            shared.new }
     {
         let guard = nested!(shared, self.parse_guard(shared, frame, settings))?;
         let body = nested!(shared, self.parse_braces(shared, frame, settings))?;
@@ -81,7 +82,8 @@ impl<R: LentReaders> Reader<'_, R> {
         settings: ParseSettings,
     ) -> ParseResult<StmtBlock>
         requires lent { Lends R.lent self.now (what.Branch settings.pos) frame.now settings shared.old }
-        ensures { Reads self.now frame.now settings 1 (what.Branch settings.pos) block_view shared.old result shared.new }
+        ensures { Reads self.now frame.now settings 1 (what.Branch settings.pos) block_view shared.old result
+            shared.new }
     {
         if !pass_token(shared.input, DueToken::Else)? {
             return Ok(no_block(self.engine.alloc()));
@@ -142,7 +144,8 @@ impl<R: LentReaders> Reader<'_, R> {
         settings: ParseSettings,
     ) -> ParseResult<StmtBlock>
         requires lent { Lends R.lent self.now (what.Braced settings.pos) frame.now settings shared.old }
-        ensures { Reads self.now frame.now settings 0 (what.Braced settings.pos) block_view shared.old result shared.new }
+        ensures { Reads self.now frame.now settings 0 (what.Braced settings.pos) block_view shared.old result
+            shared.new }
     {
         let opening = begin_block(self.engine.alloc(), shared.input, "to begin this block")?;
         let deeper = settings.level_up_with_position(opening)?;
@@ -161,7 +164,7 @@ impl<R: LentReaders> Reader<'_, R> {
         settings: ParseSettings,
     ) -> ParseResult<Stmt>
         requires lent { Lends R.lent self.now (what.Construct settings.pos While) frame.now settings shared.old }
-        ensures { Reads self.now frame.now settings 4 (what.Construct settings.pos While) statement_view shared.old result shared.new }
+        ensures { ReadsConstruct self.now frame.now settings While shared.old result shared.new }
     {
         let guard = nested!(shared, self.parse_guard(shared, frame, settings))?;
         let body = nested!(
@@ -180,7 +183,7 @@ impl<R: LentReaders> Reader<'_, R> {
         settings: ParseSettings,
     ) -> ParseResult<Stmt>
         requires lent { Lends R.lent self.now (what.Construct settings.pos Loop) frame.now settings shared.old }
-        ensures { Reads self.now frame.now settings 4 (what.Construct settings.pos Loop) statement_view shared.old result shared.new }
+        ensures { ReadsConstruct self.now frame.now settings Loop shared.old result shared.new }
     {
         let body = nested!(
             shared,
@@ -203,7 +206,7 @@ impl<R: LentReaders> Reader<'_, R> {
         settings: ParseSettings,
     ) -> ParseResult<Stmt>
         requires lent { Lends R.lent self.now (what.Construct settings.pos Do) frame.now settings shared.old }
-        ensures { Reads self.now frame.now settings 4 (what.Construct settings.pos Do) statement_view shared.old result shared.new }
+        ensures { ReadsConstruct self.now frame.now settings Do shared.old result shared.new }
     {
         let body = nested!(
             shared,
@@ -223,7 +226,7 @@ impl<R: LentReaders> Reader<'_, R> {
         settings: ParseSettings,
     ) -> ParseResult<Stmt>
         requires lent { Lends R.lent self.now (what.Construct settings.pos For) frame.now settings shared.old }
-        ensures { Reads self.now frame.now settings 4 (what.Construct settings.pos For) statement_view shared.old result shared.new }
+        ensures { ReadsConstruct self.now frame.now settings For shared.old result shared.new }
     {
         let names = next_loop_names(self.engine.alloc(), shared.input)?;
         let over = nested!(shared, self.parse_iterated(shared, frame, settings))?;
@@ -252,9 +255,10 @@ impl<R: LentReaders> Reader<'_, R> {
         names: &LoopNames,
         settings: ParseSettings,
     ) -> ParseResult<StmtBlock>
-        requires lent { Lends R.lent self.now (what.Braced settings.pos) (in_loop (loop_view names.now) frame.now) settings shared.old }
-        ensures { Reads self.now (in_loop (loop_view names.now) frame.now) settings 0 (what.Braced settings.pos) block_view shared.old
-            result shared.new }
+        requires lent { Lends R.lent self.now (what.Braced settings.pos) (in_loop (loop_view names.now) frame.now)
+            settings shared.old }
+        ensures { Reads self.now (in_loop (loop_view names.now) frame.now) settings 0 (what.Braced settings.pos)
+            block_view shared.old result shared.new }
     {
         let inner = loop_frame(self.engine.alloc(), frame, names)?;
         self.parse_braces(shared, &inner, settings)
@@ -270,7 +274,7 @@ impl<R: LentReaders> Reader<'_, R> {
         settings: ParseSettings,
     ) -> ParseResult<Stmt>
         requires lent { Lends R.lent self.now (what.Construct settings.pos Try) frame.now settings shared.old }
-        ensures { Reads self.now frame.now settings 4 (what.Construct settings.pos Try) statement_view shared.old result shared.new }
+        ensures { ReadsConstruct self.now frame.now settings Try shared.old result shared.new }
     {
         let body = nested!(shared, self.parse_braces(shared, frame, settings))?;
         let name = next_catch(self.engine.alloc(), shared.input)?;
@@ -289,9 +293,10 @@ impl<R: LentReaders> Reader<'_, R> {
         name: &Option<(RcStr, Position)>,
         settings: ParseSettings,
     ) -> ParseResult<StmtBlock>
-        requires lent { Lends R.lent self.now (what.Braced settings.pos) (in_catch (catch_view name.now) frame.now) settings shared.old }
-        ensures { Reads self.now (in_catch (catch_view name.now) frame.now) settings 0 (what.Braced settings.pos) block_view shared.old
-            result shared.new }
+        requires lent { Lends R.lent self.now (what.Braced settings.pos) (in_catch (catch_view name.now) frame.now)
+            settings shared.old }
+        ensures { Reads self.now (in_catch (catch_view name.now) frame.now) settings 0 (what.Braced settings.pos)
+            block_view shared.old result shared.new }
     {
         let inner = catch_frame(self.engine.alloc(), frame, name)?;
         self.parse_braces(shared, &inner, settings)

@@ -19,8 +19,7 @@ ghost use Rattle.rhai_grammar.specs.Rules.{function_end};
 ghost use Rattle.rhai_grammar_reading.specs.Reading.{run};
 ghost use Rattle.rhai_grammar_reading.specs.Running.{Caller, Gives, next_item, exec};
 ghost use Rattle.rhai_parser_shared.specs.Heights.{Ends, function_height};
-ghost use Rattle.rhai_parser_statements.specs.Readers.{Lends, LendsFn, Reads, ReadsFn, TakesDocumented, TakesFn};
-ghost use Rattle.rhai_parser_statements.specs.Readers.{fn_on};
+ghost use Rattle.rhai_parser_statements.specs.Readers.{Lends, LendsFn, Reads, ReadsFn, TakesDocumented, TakesFn, fn_on};
 ghost use Rattle.rhai_parser_statements.specs.Readers.{fn_statement, private_on};
 
 use crate::function::head::{next_comments, next_parameter_list};
@@ -127,7 +126,8 @@ impl<R: LentReaders> Reader<'_, R> {
         first: Position,
         private: bool,
     ) -> ParseResult<Stmt>
-        requires lent { Lends R.lent self.now (fn_statement comments.now first settings.pos private) frame.now settings shared.old }
+        requires lent { Lends R.lent self.now (fn_statement comments.now first settings.pos private) frame.now settings
+            shared.old }
         ensures { Reads self.now frame.now settings (function_height self.now.engine.now settings) (fn_statement
             comments.now first settings.pos private) (with_live statement_view frame.now) shared.old result shared.new }
     {

@@ -212,7 +212,8 @@ impl<R: LentReaders> Reader<'_, R> {
         settings: ParseSettings,
     ) -> ParseResult<Stmt>
         requires lent { Lends R.lent self.now (what.Import settings.pos) frame.old settings shared.old }
-        ensures { Defines self.now frame.old frame.new settings 1 (what.Import settings.pos) (with_live statement_view frame.new)
+        ensures { Defines self.now frame.old frame.new settings 1 (what.Import settings.pos) (with_live statement_view
+            frame.new)
             shared.old result shared.new }
     {
         let source = self
@@ -233,7 +234,8 @@ impl<R: LentReaders> Reader<'_, R> {
         settings: ParseSettings,
     ) -> ParseResult<Stmt>
         requires lent { Lends R.lent self.now (what.Export settings.pos) frame.old settings shared.old }
-        ensures { Defines self.now frame.old frame.new settings 0 (what.Export settings.pos) (with_live statement_view frame.new)
+        ensures { Defines self.now frame.old frame.new settings 0 (what.Export settings.pos) (with_live statement_view
+            frame.new)
             shared.old result shared.new }
     {
         if let Some(constant) = what_is_exported(shared.input)? {
@@ -260,8 +262,10 @@ impl<R: LentReaders> Reader<'_, R> {
         constant: bool,
         exported: bool,
     ) -> ParseResult<Stmt>
-        requires lent { Lends R.lent self.now (what.Definition settings.pos constant exported) frame.old settings shared.old }
-        ensures { Defines self.now frame.old frame.new settings 1 (what.Definition settings.pos constant exported) (with_live
+        requires lent { Lends R.lent self.now (what.Definition settings.pos constant exported) frame.old settings
+            shared.old }
+        ensures { Defines self.now frame.old frame.new settings 1 (what.Definition settings.pos constant exported)
+            (with_live
             statement_view frame.new) shared.old result shared.new }
     {
         let (name, _) = next_var_name(self.engine, shared, frame, settings)?;
@@ -289,7 +293,8 @@ impl<R: LentReaders> Reader<'_, R> {
         settings: ParseSettings,
     ) -> ParseResult<Expr>
         requires lent { Lends R.lent self.now (what.Initializer settings.pos) frame.now settings shared.old }
-        ensures { Reads self.now frame.now settings 0 (what.Initializer settings.pos) view shared.old result shared.new }
+        ensures { Reads self.now frame.now settings 0 (what.Initializer settings.pos) view shared.old result
+            shared.new }
     {
         if !has_value(shared.input)? {
             return Ok(Expr::Unit(Position::NONE));
@@ -308,7 +313,8 @@ impl<R: LentReaders> Reader<'_, R> {
         settings: ParseSettings,
     ) -> ParseResult<Stmt>
         requires lent { Lends R.lent self.now what.ExprStatement frame.now settings shared.old }
-        ensures reads { Reads self.now frame.now settings 1 what.ExprStatement statement_view shared.old result shared.new }
+        ensures reads { Reads self.now frame.now settings 1 what.ExprStatement statement_view shared.old result
+            shared.new }
         ensures open { IfOk result (λ s. ends_itself (statement_view s) ≡ false) }
     {
         let target = self
@@ -372,7 +378,8 @@ impl<R: LentReaders> Reader<'_, R> {
         settings: ParseSettings,
     ) -> ParseResult<Option<Expr>>
         requires lent { Lends R.lent self.now (what.Jump settings.pos) frame.now settings shared.old }
-        ensures { Reads self.now frame.now settings 0 (what.Jump settings.pos) optional_view shared.old result shared.new }
+        ensures { Reads self.now frame.now settings 0 (what.Jump settings.pos) optional_view shared.old result
+            shared.new }
     {
         let (token, _) = peek(shared.input)?;
         let looping = self.engine.allow_looping();

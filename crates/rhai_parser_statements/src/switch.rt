@@ -9,7 +9,7 @@ ghost use Rattle.rhai_grammar.specs.declared.role.Construct.TheVariants.{Switch}
 ghost use Rattle.rhai_grammar.specs.Goals as what;
 ghost use Rattle.rhai_parser_statements.specs.Switches.{CaseFrame, action_view, arm_view, cases_view};
 ghost use Rattle.rhai_trees.specs.Arms.{arms_view};
-ghost use Rattle.rhai_parser_statements.specs.Readers.{Lends, Reads, Takes, cases_after};
+ghost use Rattle.rhai_parser_statements.specs.Readers.{Lends, Reads, ReadsConstruct, Takes, cases_after};
 
 use crate::reader::Reader;
 use crate::switch::arms::{Action, Arm, as_case, end_arm, end_default, end_statement_action};
@@ -32,7 +32,7 @@ impl<R: LentReaders> Reader<'_, R> {
         settings: ParseSettings,
     ) -> ParseResult<Stmt>
         requires lent { Lends R.lent self.now (what.Construct settings.pos Switch) frame.now settings shared.old }
-        ensures { Reads self.now frame.now settings 4 (what.Construct settings.pos Switch) statement_view shared.old result shared.new }
+        ensures { ReadsConstruct self.now frame.now settings Switch shared.old result shared.new }
     {
         let item = self
             .readers
@@ -53,7 +53,8 @@ impl<R: LentReaders> Reader<'_, R> {
         settings: ParseSettings,
     ) -> ParseResult<Arms>
         requires lent { Lends R.lent self.now (what.Arms nothing_collected) frame.now settings shared.old }
-        ensures { Reads self.now frame.now settings 4 (what.Arms nothing_collected) arms_view shared.old result shared.new }
+        ensures { Reads self.now frame.now settings 4 (what.Arms nothing_collected) arms_view shared.old result
+            shared.new }
     {
         let in_cases = frame.in_case(self.engine.alloc());
         self.parse_arms_with(shared, frame, &in_cases, settings)
@@ -71,7 +72,8 @@ impl<R: LentReaders> Reader<'_, R> {
     ) -> ParseResult<Arms>
         requires in_cases { CaseFrame frame.now in_cases.now }
         requires lent { Lends R.lent self.now (what.Arms nothing_collected) frame.now settings shared.old }
-        ensures { Reads self.now frame.now settings 4 (what.Arms nothing_collected) arms_view shared.old result shared.new }
+        ensures { Reads self.now frame.now settings 4 (what.Arms nothing_collected) arms_view shared.old result
+            shared.new }
     {
         let mut arms = new_arms(self.engine.alloc());
         loop {
@@ -113,7 +115,8 @@ impl<R: LentReaders> Reader<'_, R> {
     ) -> ParseResult<Arm>
         requires in_cases { CaseFrame frame.now in_cases.now }
         requires lent { Lends R.lent self.now (what.Arm (arms_view arms.now)) frame.now settings shared.old }
-        ensures { Takes self.now frame.now settings 3 (what.Arm (arms_view arms.now)) arm_view shared.old result shared.new }
+        ensures { Takes self.now frame.now settings 3 (what.Arm (arms_view arms.now)) arm_view shared.old result
+            shared.new }
     {
         let cases = self.parse_cases(shared, frame, in_cases, settings)?;
         let guard = nested!(shared, self.parse_case_guard(shared, frame, settings))?;

@@ -6,10 +6,9 @@ use Rattle.rhai_lower.specs.declared.position.Position.{Position}
 use Rattle.rhai_grammar.specs.Cursors.{Cursor, next_item}
 use Rattle.rhai_grammar.specs.Delivered.{Mode, Taken, ask, code, is_end, later, text}
 use Rattle.rhai_grammar.specs.Libraries.{Library}
-use Rattle.rhai_grammar.specs.Promises.{NoneBegins, Saw}
+use Rattle.rhai_grammar.specs.Promises.{NoneBegins, Saw, written}
 use Rattle.rhai_grammar.specs.Seen.{Gives, leads}
 use Rattle.rhai_grammar_reading.specs.Reading.{Goal}
-use Rattle.rhai_grammar.specs.Promises.{written}
 use Rattle.rhai_tokenizer.specs.Meanings.{at_start}
 use Rattle.rhai_tokenizer.specs.Pieces.{Piece, spelled}
 use Rattle.rhai_tokenizer.specs.Places.{at_place, past, start}

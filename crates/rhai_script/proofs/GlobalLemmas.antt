@@ -16,10 +16,9 @@ use Rattle.rhai_grammar.specs.Contexts.{Context, nothing_live}
 use Rattle.rhai_grammar.specs.Cursors.{Cursor, next_item, cursor_of, after_take}
 use Rattle.rhai_grammar.specs.Delivered.{is_end}
 use Rattle.rhai_grammar.specs.Libraries.{Library}
-use Rattle.rhai_grammar.specs.Promises.{HasRead, Saw, UnlessMemory}
+use Rattle.rhai_grammar.specs.Promises.{HasRead, Saw, UnlessMemory, ReadsWhole, Written}
 use Rattle.rhai_grammar.specs.declared.error.ParseError.{ParseError}
 use Rattle.rhai_grammar_reading.specs.Reading.{Goal, Script}
-use Rattle.rhai_grammar.specs.Promises.{ReadsWhole, Written}
 use Rattle.rhai_grammar_laws.proofs.Positions.{refusals_stand_at_tokens}
 use Rattle.rhai_parser_shared.specs.Engines.{EngineValue}
 use Rattle.rhai_parser.specs.Nesting.{NestsAsWritten}

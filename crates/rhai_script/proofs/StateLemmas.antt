@@ -18,12 +18,11 @@ use Rattle.rhai_grammar.specs.Cursors.{Cursor, cursor_of}
 use Rattle.rhai_grammar.specs.Libraries.{Library}
 use Rattle.rhai_grammar.specs.NumberedLibraries.{IsOrderly}
 use Rattle.rhai_grammar.specs.Causes.{no_memory}
-use Rattle.rhai_grammar.specs.Promises.{HasRead, UnlessMemory}
+use Rattle.rhai_grammar.specs.Promises.{HasRead, UnlessMemory, ReadsWhole, Written}
 use Rattle.rhai_grammar.specs.declared.error.ParseError.{ParseError}
 use Rattle.rhai_grammar.specs.declared.filter.ExprFilter.{ExprFilter}
 use Rattle.rhai_grammar.specs.declared.filter.ExprFilter.TheVariants.{All}
 use Rattle.rhai_grammar_reading.specs.Reading.{In, Goal, Script, Whole}
-use Rattle.rhai_grammar.specs.Promises.{ReadsWhole, Written}
 use Rattle.rhai_grammar.specs.Forms.{depth}
 use Rattle.rhai_grammar.specs.Rules.{production}
 use Rattle.rhai_grammar_laws.proofs.Orders.{libraries_stay_orderly}

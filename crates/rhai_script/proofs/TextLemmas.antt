@@ -9,10 +9,9 @@ use Rattle.rhai_grammar.specs.Cursors.{Cursor, next_item, cursor_of}
 use Rattle.rhai_grammar.specs.Delivered.{Taken}
 use Rattle.rhai_grammar.specs.Libraries.{Library}
 use Rattle.rhai_grammar_laws.specs.PositionLaws.{StandsAmong}
-use Rattle.rhai_grammar.specs.Promises.{HasRead, IsNamed, UnlessMemory}
+use Rattle.rhai_grammar.specs.Promises.{HasRead, IsNamed, UnlessMemory, ReadsWhole, Written, unwritten}
 use Rattle.rhai_grammar.specs.declared.error.ParseError.{ParseError}
 use Rattle.rhai_grammar_reading.specs.Reading.{Goal}
-use Rattle.rhai_grammar.specs.Promises.{ReadsWhole, Written, unwritten}
 use Rattle.rhai_tokenizer.specs.Pieces.{Piece, spelled}
 use Rattle.rhai_tokenizer.specs.Places.{at_place, past, start}
 use Rattle.rhai_tokenizer.specs.Readings.{IsCutInto, items}

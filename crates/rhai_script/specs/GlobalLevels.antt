@@ -11,10 +11,9 @@ use Rattle.rhai_grammar.specs.Contexts.{Context, nothing_live}
 use Rattle.rhai_grammar.specs.Cursors.{Cursor, next_item, after_take}
 use Rattle.rhai_grammar.specs.Delivered.{is_end}
 use Rattle.rhai_grammar.specs.Libraries.{Library}
-use Rattle.rhai_grammar.specs.Promises.{IsWritten}
+use Rattle.rhai_grammar.specs.Promises.{IsWritten, Written, written}
 use Rattle.rhai_grammar.specs.declared.error.ParseError.{ParseError}
 use Rattle.rhai_grammar_reading.specs.Reading.{Goal, Script}
-use Rattle.rhai_grammar.specs.Promises.{Written, written}
 use Rattle.rhai_base.specs.Counts.{Counts, none_yet}
 use Rattle.rhai_parser_shared.specs.Engines.{EngineValue, script_settings}
 use Rattle.rhai_parser.specs.Nesting.{NestsAsWritten}

@@ -4,10 +4,9 @@ use Rattle.rhai_lower.specs.Texts.{Text}
 use Rattle.rhai_grammar.specs.Causes.{is_for_memory}
 use Rattle.rhai_grammar.specs.Cursors.{Cursor}
 use Rattle.rhai_grammar.specs.Libraries.{Library}
-use Rattle.rhai_grammar.specs.Promises.{HasRead, UnlessMemory}
+use Rattle.rhai_grammar.specs.Promises.{HasRead, UnlessMemory, ReadsWhole, Written}
 use Rattle.rhai_grammar.specs.declared.error.ParseError.{ParseError}
 use Rattle.rhai_grammar_reading.specs.Reading.{Goal}
-use Rattle.rhai_grammar.specs.Promises.{ReadsWhole, Written}
 use Rattle.rhai_tokenizer.specs.declared.limits.Limits.{Limits}
 use Rattle.rhai_tokenizer.specs.Meanings.{after, at_start}
 use Rattle.rhai_tokenizer.specs.Pieces.{AllFit, Piece, spelled}

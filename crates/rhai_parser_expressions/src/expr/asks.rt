@@ -12,13 +12,12 @@ ghost use Rattle.rhai_grammar.specs.Causes.{MemoryIsNowhere, is_for_memory, refu
 ghost use Rattle.rhai_grammar.specs.Chains.{chained};
 ghost use Rattle.rhai_grammar.specs.Contexts.{Context};
 ghost use Rattle.rhai_grammar.specs.Delivered.{is_end, is_memory};
-ghost use Rattle.rhai_grammar_reading.specs.Reading.{NextOperator};
+ghost use Rattle.rhai_grammar_reading.specs.Reading.{NextOperator, run};
 ghost use Rattle.rhai_grammar.specs.Modules.{module_fault};
 ghost use Rattle.rhai_grammar.specs.Signs.{sign_result};
 ghost use Rattle.rhai_grammar.specs.Trees.{is_variable};
 ghost use Rattle.rhai_trees.specs.Chains.{chain_view};
 ghost use Rattle.rhai_grammar.specs.Rules.{index_on, tested};
-ghost use Rattle.rhai_grammar_reading.specs.Reading.{run};
 ghost use Rattle.rhai_grammar_reading.specs.Running.{Caller, Gives, Progress, next_item, exec, after_peek};
 ghost use Rattle.rhai_parser_shared.specs.Readers.{GoesOn, ReadsGoal, state_of};
 ghost use Rattle.rhai_parser_expressions.specs.NextOperators.{operator_pair};

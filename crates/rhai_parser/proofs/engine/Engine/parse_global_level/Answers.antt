@@ -1,10 +1,9 @@
-use Rattle.std.proofs.Common.{◌∙◌, ap, rules, subst}
+use Rattle.std.proofs.Common.{◌∙◌, ap, rules, subst, IfOk}
 use Rattle.std.specs.Prelude.{Vec, map}
 use Rattle.std.specs.Rc.{rc_str_bytes}
 use Rattle.std.specs.declared.alloc.Global.{Global}
 use Rattle.std.specs.declared.rc.RcStr.{RcStr}
 use Rattle.rhai_grammar.specs.Cursors.{cursor_of, mode_by}
-use Rattle.std.proofs.Common.{IfOk}
 use Rattle.rhai_base.specs.Counts.{Counts, counts_of, with_entered, with_peak}
 use Rattle.rhai_base.specs.Frames.{FrameValue}
 use Rattle.rhai_base.specs.Libraries.{library_of}

@@ -6,19 +6,18 @@ use Rattle.rhai_parser_shared.proofs.Given.{gives_so}
 use Rattle.rhai_parser_expressions.proofs.OperandLemmas.{ends_counted, ends_looked}
 use Rattle.rhai_parser_shared.specs.Frames.{context_of, live_of}
 use Rattle.rhai_grammar.specs.Rules.{operand_ends}
-use Rattle.rhai_grammar_reading.specs.Reading.{run}
+use Rattle.rhai_grammar_reading.specs.Reading.{run, Operand}
 use Rattle.rhai_parser_expressions.specs.Operands.{Counted}
-use Rattle.rhai_grammar.specs.Goals as what
 use Rattle.rhai_parser_shared.specs.Readers.{state_of, under}
 use Rattle.rhai_parser_expressions.proofs.reader.Reader.parse_ends.Goals as goal
 use Rattle.rhai_parser_expressions.proofs.reader.Reader.parse_ends.Goals.{In_ok-next_ends_operand}
 
 -- the ends are what they were before the look at the next token
 ends : (g : _) (c : In_ok-next_ends_operand g) (s : Progress) → left (state_of c.args.shared.now).cursor.tokens ≤ left s.cursor.tokens
-    → exec (guarded (under what.Operand c.args.self.now.engine.now c.args.frame.now c.args.settings) s) (run (operand_ends (context_of c.args.self.now.engine.now c.args.frame.now c.args.settings) (live_of c.args.frame.now) (chain_view c.args.primary))) (state_of c.args.shared.now)
-    ≡ exec (guarded (under what.Operand c.args.self.now.engine.now c.args.frame.now c.args.settings) s) (run (operand_ends (context_of c.args.self.now.engine.now c.args.frame.now c.args.settings) (live_of c.args.frame.now) (chain_view c.args.primary))) (state_of c.next_ends_operand.new.shared)
+    → exec (guarded (under Operand c.args.self.now.engine.now c.args.frame.now c.args.settings) s) (run (operand_ends (context_of c.args.self.now.engine.now c.args.frame.now c.args.settings) (live_of c.args.frame.now) (chain_view c.args.primary))) (state_of c.args.shared.now)
+    ≡ exec (guarded (under Operand c.args.self.now.engine.now c.args.frame.now c.args.settings) s) (run (operand_ends (context_of c.args.self.now.engine.now c.args.frame.now c.args.settings) (live_of c.args.frame.now) (chain_view c.args.primary))) (state_of c.next_ends_operand.new.shared)
 ends g c s less =
-    let call = guarded (under what.Operand c.args.self.now.engine.now c.args.frame.now c.args.settings) s in
+    let call = guarded (under Operand c.args.self.now.engine.now c.args.frame.now c.args.settings) s in
     let context = context_of c.args.self.now.engine.now c.args.frame.now c.args.settings in
     let rest = run (operand_ends context (live_of c.args.frame.now) (chain_view c.args.primary)) in
     sym (ends_looked context (live_of c.args.frame.now) (chain_view c.args.primary) s (state_of c.args.shared.now) less)
@@ -53,5 +52,5 @@ returns g c = record {
       gives_so chain_view c.end_plain.result t
       (ends g (goal.at.returns g c).In_ok-next_ends_operand s less
       ∙ ends_counted context (live_of c.args.frame.now) (chain_view c.args.primary) s t (grind arith) counted c.pass_ends.ensures.postfix c.pass_ends.ensures.links)
-      (c.end_plain.ensures.gives (guarded (under what.Operand c.args.self.now.engine.now c.args.frame.now c.args.settings) s) t context refl refl);
+      (c.end_plain.ensures.gives (guarded (under Operand c.args.self.now.engine.now c.args.frame.now c.args.settings) s) t context refl refl);
 }

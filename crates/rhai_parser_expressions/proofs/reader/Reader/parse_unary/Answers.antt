@@ -1,7 +1,7 @@
 use Rattle.std.proofs.Common.{◌≡◌, ◌∙◌, Err, Ok, ap, arith, refl, sym}
 use Rattle.rhai_trees.specs.Chains.{chain_view}
 use Rattle.rhai_grammar.specs.Beginnings.{beginning}
-use Rattle.rhai_grammar_reading.specs.Reading.{In, Primary}
+use Rattle.rhai_grammar_reading.specs.Reading.{In, Primary, Operand}
 use Rattle.rhai_grammar_reading.specs.Running.{next_item, entering, after_peek, result_of}
 use Rattle.rhai_grammar_reading.specs.Running as R
 use Rattle.rhai_grammar_reading.proofs.Steps.{looked, nested_done}
@@ -9,7 +9,6 @@ use Rattle.rhai_parser_shared.proofs.Given.{gives_so}
 use Rattle.rhai_parser_expressions.proofs.OperandLemmas.{counted_once, operand_begun}
 use Rattle.rhai_parser_expressions.proofs.PrimaryLemmas.{value_unsigned}
 use Rattle.rhai_parser_shared.specs.Frames.{context_of, live_of}
-use Rattle.rhai_grammar.specs.Goals as what
 use Rattle.rhai_parser_shared.specs.Readers.{nesting_of, state_of, under}
 use Rattle.rhai_parser_expressions.proofs.reader.Reader.parse_unary.Goals as goal
 
@@ -18,7 +17,7 @@ returns-in-Ok g c = record {
   goes_on = grind arith;
   stays = grind arith;
   reads =
-      let goal = under what.Operand c.args.self.now.engine.now c.args.frame.now c.args.settings in
+      let goal = under Operand c.args.self.now.engine.now c.args.frame.now c.args.settings in
       gives_so chain_view (Ok c.in-Ok.operand) (state_of c.parse_plain.new.shared)
       (sym (looked goal _ (state_of c.args.shared.now) refl) ∙ ap (result_of goal) (grind arith)) c.in-Ok.ensures.reads;
 }
@@ -28,7 +27,7 @@ returns-in-Err g c = record {
   goes_on = grind arith;
   stays = grind arith;
   reads =
-      let goal = under what.Operand c.args.self.now.engine.now c.args.frame.now c.args.settings in
+      let goal = under Operand c.args.self.now.engine.now c.args.frame.now c.args.settings in
       gives_so chain_view (Err c.in-Err.error) (state_of c.parse_plain.new.shared)
       (sym (looked goal _ (state_of c.args.shared.now) refl) ∙ ap (result_of goal) (grind arith)) c.in-Err.ensures.reads;
 }
@@ -38,7 +37,7 @@ returns-in-Ok-parse_rare g c = record {
   goes_on = grind arith;
   stays = grind arith;
   reads =
-      let goal = under what.Operand c.args.self.now.engine.now c.args.frame.now c.args.settings in
+      let goal = under Operand c.args.self.now.engine.now c.args.frame.now c.args.settings in
       gives_so chain_view (Ok c.in-Ok-parse_rare.operand) (state_of c.parse_rare.new.shared)
       (sym (looked goal _ (state_of c.args.shared.now) refl) ∙ ap (result_of goal) (grind arith)) c.in-Ok-parse_rare.ensures.reads;
 }
@@ -48,7 +47,7 @@ returns-in-Err-parse_rare g c = record {
   goes_on = grind arith;
   stays = grind arith;
   reads =
-      let goal = under what.Operand c.args.self.now.engine.now c.args.frame.now c.args.settings in
+      let goal = under Operand c.args.self.now.engine.now c.args.frame.now c.args.settings in
       gives_so chain_view (Err c.in-Err-parse_rare.error) (state_of c.parse_rare.new.shared)
       (sym (looked goal _ (state_of c.args.shared.now) refl) ∙ ap (result_of goal) (grind arith)) c.in-Err-parse_rare.ensures.reads;
 }
