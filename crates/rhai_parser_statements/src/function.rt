@@ -169,7 +169,10 @@ impl<R: LentReaders> Reader<'_, R> {
         let opening = open_body(shared.input, &head.1)?;
         let deeper = settings.level_up_with_position(opening)?;
         declare_parameters(frame, &names)?;
-        let body = nested!(shared, self.parse_block(shared, frame, deeper))?;
+        let body = match nested!(shared, self.parse_block(shared, frame, deeper)) {
+            Ok(body) => body,
+            Err(error) => return Err(error),
+        };
         let alloc = self.engine.alloc();
         Ok(make_function(alloc, comments, private, head, names, body)?)
     }

@@ -40,7 +40,7 @@ pub(crate) fn next_var_name(
     ensures goes_on { GoesOn shared.old shared.new }
     ensures steady { Steady shared.old shared.new }
     ensures reads { ReadsGoal (under what.VarName engine.now frame.now settings) name_view shared.old result
-            shared.new }
+        shared.new }
 {
     let (name, pos) = parse_var_name(shared.input)?;
     frame.test_name(engine.allow_shadowing(), &name, pos)?;
