@@ -1,7 +1,8 @@
 //! `cut_of`: which tokens are left out where a script is refused: the innermost statement around the refusal.
 
 use crate::brackets::depth_after;
-use crate::left::{Cut, Numbered, token_at};
+use crate::left::token_at;
+use crate::tokens::{Cut, Numbered};
 use crate::levels::{Spot, spot_of};
 use crate::numbers::token_of;
 use rhai_script::{ParseError, ParseErrorType, Token};

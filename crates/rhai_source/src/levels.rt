@@ -1,6 +1,7 @@
 //! `Spot`: in which statement a token is, by the brackets and statements before it.
 
-use crate::left::{Numbered, token_at};
+use crate::left::token_at;
+use crate::tokens::Numbered;
 use rhai_script::Token;
 use std::alloc::{AllocError, Global};
 

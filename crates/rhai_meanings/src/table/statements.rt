@@ -2,7 +2,7 @@
 
 use super::{Closures, Table};
 use crate::extent::{Extent, joined, one};
-use crate::numbers::token_of;
+use rhai_source::token_of;
 use rhai_script::{Node, Stmt, StmtBlock, Token};
 
 impl Table<'_> {

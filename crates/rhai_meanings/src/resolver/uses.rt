@@ -3,7 +3,7 @@
 use super::Resolver;
 use crate::live::{Captured, Live, latest};
 use crate::names::Role;
-use crate::numbers::token_of;
+use rhai_source::token_of;
 use crate::places::place_of_closure;
 use rhai_script::{Expr, FnCallExpr, FnKey, Ident, Namespace, Position, VariableExpr};
 use std::alloc::AllocError;

@@ -3,7 +3,7 @@
 use super::Table;
 use crate::extent::{Extent, joined, one};
 use crate::generated::is_binding;
-use crate::numbers::token_of;
+use rhai_source::token_of;
 use rhai_script::{Expr, FnCallExpr, Token};
 
 /// The bodies of the closures that have ended.

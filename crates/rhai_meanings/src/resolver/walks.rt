@@ -3,13 +3,13 @@
 use super::Resolver;
 use crate::imports::import_name;
 use crate::names::{Names, Symbol, SymbolKind};
-use crate::numbers::token_of;
-use crate::parse::Script;
+use rhai_source::token_of;
+use rhai_source::Script;
 use crate::pending::Pending;
 use crate::brackets::partners;
-use crate::left_out::left_out;
+use crate::mask::left_out;
 use crate::places::{is_closure, place_of_function};
-use crate::source::Source;
+use rhai_source::Source;
 use rhai_script::{Entry, Expr, FnLib, Node, Position, ScriptFuncDef, Stmt, Token, Walk};
 use std::alloc::{AllocError, Global};
 

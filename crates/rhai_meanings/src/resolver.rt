@@ -2,7 +2,7 @@
 
 use crate::live::{Captured, Live};
 use crate::names::{Meaning, Role, Symbol, SymbolKind};
-use crate::numbers::token_of;
+use rhai_source::token_of;
 use crate::pending::Due;
 use crate::places::FunctionPlace;
 use rhai_script::{Entry, FnLib, Position, ScriptFuncDef, Token};

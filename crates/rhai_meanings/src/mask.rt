@@ -1,7 +1,7 @@
 //! `left_out`: which tokens of a text are in no script that is read of it.
 
-use crate::left::Cut;
-use crate::source::{Refusal, Source};
+use rhai_source::{Refusal, Source};
+use rhai_source::Cut;
 use std::alloc::{AllocError, Global};
 
 // Marks the tokens of a cut.

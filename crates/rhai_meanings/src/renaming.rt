@@ -2,7 +2,8 @@
 
 use crate::names::Names;
 use crate::resolver::resolve;
-use crate::source::{Source, read};
+use rhai_source::Source;
+use rhai_source::read;
 use rhai_script::{Engine, Entry, Limits, Span, Token, is_valid_identifier};
 use std::alloc::{AllocError, Global};
 

@@ -3,10 +3,10 @@
 use crate::extent::{Extent, Extents, Ranged};
 use crate::generated::{forget_captures, self_contained};
 use crate::brackets::partners;
-use crate::left_out::left_out;
-use crate::parse::Script;
+use crate::mask::left_out;
+use rhai_source::Script;
 use crate::places::is_closure;
-use crate::source::Source;
+use rhai_source::Source;
 use crate::table::{Closures, Table};
 use rhai_script::{Node, ScriptFuncDef, Walk};
 use std::alloc::{AllocError, Global};
@@ -18,7 +18,7 @@ struct Seen<'a> {
     node: Node<'a>,
 }
 
-fn seen<'a>(alloc: Global, walk: Walk<'a>) -> Result<Vec<Seen<'a>>, AllocError> {
+fn nodes_of<'a>(alloc: Global, walk: Walk<'a>) -> Result<Vec<Seen<'a>>, AllocError> {
     let mut walk = walk;
     let mut nodes = Vec::new(alloc);
     while let Some((depth, node)) = walk.next()? {
@@ -85,7 +85,7 @@ fn functions_of(
     let mut functions = Vec::with_capacity(alloc, script.functions.len())?;
     for function in script.functions.values() {
         let function: &ScriptFuncDef = function;
-        let nodes = seen(alloc, Walk::new(alloc, Node::Function(function))?)?;
+        let nodes = nodes_of(alloc, Walk::new(alloc, Node::Function(function))?)?;
         let closures = Closures { bodies: &bodies };
         let ranged = extents_of(alloc, table, &nodes, closures)?;
         if is_closure(function) {
@@ -105,7 +105,7 @@ pub fn extents(alloc: Global, source: &Source) -> Result<Extents, AllocError> {
         partners: &partners,
     };
     let (functions, bodies) = functions_of(alloc, table, &source.script)?;
-    let nodes = seen(alloc, Walk::of_statements(alloc, &source.script.statements)?)?;
+    let nodes = nodes_of(alloc, Walk::of_statements(alloc, &source.script.statements)?)?;
     let closures = Closures { bodies: &bodies };
     let statements = extents_of(alloc, table, &nodes, closures)?;
     Ok(Extents {

@@ -1,7 +1,7 @@
 //! `Table`: the tokens of a script and the partners of its brackets, from which the tokens of its parts follow.
 
 use crate::extent::{Extent, joined, one};
-use crate::numbers::token_of;
+use rhai_source::token_of;
 use rhai_script::{Entry, Namespace, Token};
 
 mod expressions;

@@ -1,6 +1,6 @@
 //! `import_name`: the name under which a script imports a module.
 
-use crate::brackets::depth_after;
+use rhai_source::brackets::depth_after;
 use rhai_script::{Entry, Token};
 
 /// The token of the name that an import ends with: after the last `as` outside brackets.
