@@ -138,14 +138,14 @@ fn read_tokens(
 {
     let mut left = all;
     let mut refusals = Vec::new(alloc);
-    for _told in 1..most {
+    'rounds: while refusals.len().saturating_add(1) < most {
         let error = match parse(alloc, engine, &left, end)? {
             Ok(script) => return Ok(Reading { refusals, script }),
             Err(error) => error,
         };
         let cut = cut_of(alloc, &left, &error)?;
         let Some(Kept { cut, left: kept }) = shorter(alloc, &left, cut)? else {
-            break;
+            break 'rounds;
         };
         refusals.push(Refusal { error, cut })?;
         left = kept;
