@@ -1,7 +1,7 @@
 //! `import_name`: the name under which a script imports a module.
 
-use rhai_source::brackets::depth_after;
 use rhai_script::{Entry, Token};
+use rhai_source::brackets::depth_after;
 
 /// The token of the name that an import ends with: after the last `as` outside brackets.
 pub fn import_name(entries: &[Entry], import: usize) -> Option<usize> {

@@ -1,7 +1,6 @@
 //! `left_out`: which tokens of a text are in no script that is read of it.
 
-use rhai_source::{Refusal, Source};
-use rhai_source::Cut;
+use rhai_source::{Cut, Refusal, Source};
 use std::alloc::{AllocError, Global};
 
 // Marks the tokens of a cut.

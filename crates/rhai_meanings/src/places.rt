@@ -95,7 +95,9 @@ pub fn place_of_function(
 // How many tokens the parameters of a closure take that begins at this `|`.
 fn count_params(entries: &[Entry], bar: usize) -> usize {
     let rest = entries.get(bar.saturating_add(1)..).unwrap_or(&[]);
-    rest.iter().take_while(|entry| entry.token != Token::Pipe).count()
+    rest.iter()
+        .take_while(|entry| entry.token != Token::Pipe)
+        .count()
 }
 
 /// Where a closure stands that begins at this `|` or `||`.

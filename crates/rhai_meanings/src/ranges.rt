@@ -1,14 +1,13 @@
 //! `extents`: which tokens each node of the tree takes.
 
+use crate::brackets::partners;
 use crate::extent::{Extent, Extents, Ranged};
 use crate::generated::{forget_captures, self_contained};
-use crate::brackets::partners;
 use crate::mask::left_out;
-use rhai_source::Script;
 use crate::places::is_closure;
-use rhai_source::Source;
 use crate::table::{Closures, Table};
 use rhai_script::{Node, ScriptFuncDef, Walk};
+use rhai_source::{Script, Source};
 use std::alloc::{AllocError, Global};
 
 // A node that was walked.
@@ -105,7 +104,10 @@ pub fn extents(alloc: Global, source: &Source) -> Result<Extents, AllocError> {
         partners: &partners,
     };
     let (functions, bodies) = functions_of(alloc, table, &source.script)?;
-    let nodes = nodes_of(alloc, Walk::of_statements(alloc, &source.script.statements)?)?;
+    let nodes = nodes_of(
+        alloc,
+        Walk::of_statements(alloc, &source.script.statements)?,
+    )?;
     let closures = Closures { bodies: &bodies };
     let statements = extents_of(alloc, table, &nodes, closures)?;
     Ok(Extents {

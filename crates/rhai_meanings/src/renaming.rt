@@ -2,9 +2,8 @@
 
 use crate::names::Names;
 use crate::resolver::resolve;
-use rhai_source::Source;
-use rhai_source::read;
 use rhai_script::{Engine, Entry, Limits, Span, Token, is_valid_identifier};
+use rhai_source::{Source, read};
 use std::alloc::{AllocError, Global};
 
 /// Why a name is not given.
@@ -107,7 +106,10 @@ fn first_change(
         return Some(old.len().min(new.len()));
     }
     for (token, (left, right)) in old.iter().zip(new.iter()).enumerate() {
-        let (was, is) = (was.get(token).copied().flatten(), is.get(token).copied().flatten());
+        let (was, is) = (
+            was.get(token).copied().flatten(),
+            is.get(token).copied().flatten(),
+        );
         let is_renamed = was.is_some_and(|meaning| meaning.symbol == symbol);
         if was != is || !is_same(left, right, is_renamed, name) {
             return Some(token);

@@ -2,10 +2,10 @@
 
 use crate::live::{Captured, Live};
 use crate::names::{Meaning, Role, Symbol, SymbolKind};
-use rhai_source::token_of;
 use crate::pending::Due;
 use crate::places::FunctionPlace;
 use rhai_script::{Entry, FnLib, Position, ScriptFuncDef, Token};
+use rhai_source::token_of;
 use std::alloc::{AllocError, Global};
 use std::num::NonZeroUsize;
 

@@ -1,8 +1,8 @@
 //! `Table`: the tokens of a script and the partners of its brackets, from which the tokens of its parts follow.
 
 use crate::extent::{Extent, joined, one};
-use rhai_source::token_of;
 use rhai_script::{Entry, Namespace, Token};
+use rhai_source::token_of;
 
 mod expressions;
 mod statements;

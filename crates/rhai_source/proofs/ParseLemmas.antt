@@ -58,10 +58,14 @@ script_is_read : (context : Context) (after : Library) (start left : Cursor) (gi
     → script.statements.items ≡ given.0.items → library_of script.functions.entries ≡ after
     → ReadsScriptOf context after start left (Ok script)
 script_is_read context after start left given slots imports script r statements functions = record {
-  accepted = (r.accepted.0, r.accepted.1, record {
-    statements = ap statement_views statements ∙ r.accepted.2.statements;
-    functions = functions;
-  });
+  accepted = (
+    r.accepted.0,
+    r.accepted.1,
+    record {
+      statements = ap statement_views statements ∙ r.accepted.2.statements;
+      functions = functions;
+    },
+  );
   only = λ f other w.
       let o = r.only f other w in
       (record { statements = ap statement_views statements ∙ o.0.statements; functions = functions }, o.1);
@@ -107,7 +111,7 @@ parses_refusal engine end is stream after left e slots imports s r memory orderl
     let same = stream_delivers is end stream s in
     let context = script_context engine None in
     let reads = subst (λ (start : Cursor). ReadsScriptOf context after start left (Err e)) same
-        (refusal_is_read context after (cursor_of stream) left e slots imports r) in
+    (refusal_is_read context after (cursor_of stream) left e slots imports r) in
     record {
       after = after;
       left = left;

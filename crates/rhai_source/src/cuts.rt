@@ -2,9 +2,9 @@
 
 use crate::brackets::depth_after;
 use crate::left::token_at;
-use crate::tokens::{Cut, Numbered};
 use crate::levels::{Spot, spot_of};
 use crate::numbers::token_of;
+use crate::tokens::{Cut, Numbered};
 use rhai_script::{ParseError, ParseErrorType, Token};
 use std::alloc::{AllocError, Global};
 

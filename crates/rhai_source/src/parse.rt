@@ -32,12 +32,7 @@ struct Parsed {
 }
 
 // Reads a script from a stream in a new state, with this library.
-fn read_stream(
-    alloc: Global,
-    engine: &Engine,
-    input: &mut TokenStream,
-    lib: &mut FnLib,
-) -> Parsed
+fn read_stream(alloc: Global, engine: &Engine, input: &mut TokenStream, lib: &mut FnLib) -> Parsed
     requires { input.old.in_text ≡ false }
     ensures reads { ReadsScript (script_context engine.now None) nothing_live (library_of lib.old.entries)
         (library_of lib.new.entries) (cursor_of input.old) (cursor_of input.new) result.script result.scope

@@ -37,11 +37,7 @@ struct Reading {
 }
 
 // What a cut leaves of these tokens, if there is one and it holds some of them.
-fn shorter(
-    alloc: Global,
-    left: &[Numbered],
-    cut: Option<Cut>,
-) -> Result<Option<Kept>, AllocError>
+fn shorter(alloc: Global, left: &[Numbered], cut: Option<Cut>) -> Result<Option<Kept>, AllocError>
     ensures { IfOk result (λ found. IfSome found (λ kept. IsKept (tokens_of left.now) kept.cut
         (tokens_of kept.left.items))) }
 {

@@ -34,7 +34,12 @@ fn check(
     let source = read(alloc, &Engine::new(alloc), text, LIMITS, most)?;
     let found = refused(alloc, &source)?;
     assert!(rt; found.as_slice() == tokens);
-    assert!(rt; (source.script.statements.len(), source.script.functions.len()) == left);
+    assert!(rt;
+        (
+            source.script.statements.len(),
+            source.script.functions.len()
+        ) == left
+    );
     Ok(())
 }
 
@@ -42,7 +47,14 @@ const TWO_ERRORS: &str = "let x = 1;\nlet y = (;\nfn f(a) { let z = ; a }\nx + y
 
 #[test]
 fn a_script_has_no_refusal(rt: HostRuntime) -> Result<(), Fail> {
-    check(&rt, rt.alloc(), "let x = 1; fn f(a) { a } x", 9, &[], (2, 1))?;
+    check(
+        &rt,
+        rt.alloc(),
+        "let x = 1; fn f(a) { a } x",
+        9,
+        &[],
+        (2, 1),
+    )?;
     check(&rt, rt.alloc(), "", 9, &[], (0, 0))?;
     Ok(())
 }
@@ -65,7 +77,7 @@ fn no_more_refusals_than_asked_for(rt: HostRuntime) -> Result<(), Fail> {
 
 #[test]
 fn a_text_that_ends_in_a_block(rt: HostRuntime) -> Result<(), Fail> {
-    // The end mark is token 12.
+    // The end mark is token 11.
     check(&rt, rt.alloc(), "let x = 1; if x > 0 { x", 9, &[11], (1, 0))?;
     Ok(())
 }

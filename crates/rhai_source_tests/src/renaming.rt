@@ -31,8 +31,22 @@ fn check(
 #[test]
 fn all_uses_get_the_name(rt: HostRuntime) -> Result<(), Fail> {
     let text = "let x = 1; { let x = x; x } x";
-    check(&rt, rt.alloc(), text, 13, "y", Ok("let y = 1; { let x = y; x } y"));
-    check(&rt, rt.alloc(), text, 11, "y", Ok("let x = 1; { let y = x; y } x"));
+    check(
+        &rt,
+        rt.alloc(),
+        text,
+        13,
+        "y",
+        Ok("let y = 1; { let x = y; x } y"),
+    );
+    check(
+        &rt,
+        rt.alloc(),
+        text,
+        11,
+        "y",
+        Ok("let x = 1; { let y = x; y } x"),
+    );
     Ok(())
 }
 
@@ -43,6 +57,13 @@ fn no_name_may_change_a_meaning(rt: HostRuntime) -> Result<(), Fail> {
     check(&rt, rt.alloc(), text, 1, "y", Err(NotRenamed::Changes(11)));
     check(&rt, rt.alloc(), text, 1, "if", Err(NotRenamed::NoName));
     check(&rt, rt.alloc(), text, 2, "z", Err(NotRenamed::NoSymbol));
-    check(&rt, rt.alloc(), "let x = ;", 1, "z", Err(NotRenamed::Refused(3)));
+    check(
+        &rt,
+        rt.alloc(),
+        "let x = ;",
+        1,
+        "z",
+        Err(NotRenamed::Refused(3)),
+    );
     Ok(())
 }

@@ -3,9 +3,9 @@
 use super::Resolver;
 use crate::live::{Captured, Live, latest};
 use crate::names::Role;
-use rhai_source::token_of;
 use crate::places::place_of_closure;
 use rhai_script::{Expr, FnCallExpr, FnKey, Ident, Namespace, Position, VariableExpr};
+use rhai_source::token_of;
 use std::alloc::AllocError;
 use std::num::NonZeroUsize;
 use std::rc::RcStr;

@@ -1,16 +1,14 @@
 //! `resolve`: walks the tree of a script with the definitions that are live, so that a number leads to its definition.
 
 use super::Resolver;
-use crate::imports::import_name;
-use crate::names::{Names, Symbol, SymbolKind};
-use rhai_source::token_of;
-use rhai_source::Script;
-use crate::pending::Pending;
 use crate::brackets::partners;
+use crate::imports::import_name;
 use crate::mask::left_out;
+use crate::names::{Names, Symbol, SymbolKind};
+use crate::pending::Pending;
 use crate::places::{is_closure, place_of_function};
-use rhai_source::Source;
 use rhai_script::{Entry, Expr, FnLib, Node, Position, ScriptFuncDef, Stmt, Token, Walk};
+use rhai_source::{Script, Source, token_of};
 use std::alloc::{AllocError, Global};
 
 impl<'a> Resolver<'a> {

@@ -3,8 +3,8 @@
 use super::Table;
 use crate::extent::{Extent, joined, one};
 use crate::generated::is_binding;
-use rhai_source::token_of;
 use rhai_script::{Expr, FnCallExpr, Token};
+use rhai_source::token_of;
 
 /// The bodies of the closures that have ended.
 #[derive(Clone, Copy)]

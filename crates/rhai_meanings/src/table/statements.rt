@@ -2,8 +2,8 @@
 
 use super::{Closures, Table};
 use crate::extent::{Extent, joined, one};
-use rhai_source::token_of;
 use rhai_script::{Node, Stmt, StmtBlock, Token};
+use rhai_source::token_of;
 
 impl Table<'_> {
     // With the semicolon after it.

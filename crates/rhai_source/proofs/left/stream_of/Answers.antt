@@ -13,6 +13,6 @@ loop-token-preserved c =
     record {
       made = grind (arith, common_steps);
       deliverable = subst (All Deliverable) (sym items)
-        (All-push Deliverable c.loop-token.entries.items _ c.loop-token.invariant.deliverable
-        (subst (λ b. IsTrue b) (sym c.in_ok-copy.ensures.deliverable) c.token-item.result.deliverable));
+          (All-push Deliverable c.loop-token.entries.items _ c.loop-token.invariant.deliverable
+          (subst (λ b. IsTrue b) (sym c.in_ok-copy.ensures.deliverable) c.token-item.result.deliverable));
     }

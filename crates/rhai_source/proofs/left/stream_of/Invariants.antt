@@ -7,5 +7,5 @@ use Rattle.rhai_source.proofs.left.stream_of.Given as goal
 abbrev pub invariant-loop-token : goal.invariant-loop-token
 invariant-loop-token l = record {
   made : map item_of l.entries.items ++ by_numbers (tokens_of (drop l.token-index l.left)) ≡ by_numbers (tokens_of l.left);
-  deliverable : All (λ e. IsTrue (may_be_delivered e)) l.entries.items
+  deliverable : All (λ e. IsTrue (may_be_delivered e)) l.entries.items;
 }
