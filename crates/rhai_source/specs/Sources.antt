@@ -14,7 +14,7 @@ use Rattle.rhai_grammar.specs.declared.error.ParseError.{ParseError}
 use Rattle.rhai_grammar_reading.specs.Reading as goal
 use Rattle.rhai_base.specs.Libraries.{library_of}
 use Rattle.rhai_parser_shared.specs.Engines.{EngineValue}
-use Rattle.rhai_tokenizer.specs.Readings.{ReadsText, item_of}
+use Rattle.rhai_tokenizer.specs.Readings.{IsCutInto, item_of}
 use Rattle.rhai_tokenizer.specs.declared.limits.Limits.{Limits}
 use Rattle.rhai_script.specs.Deliveries.{IsPlaceOf, delivers}
 use Rattle.rhai_script.specs.GlobalLevels.{script_context}
@@ -59,7 +59,7 @@ LeadsTo engine end is (refusal ∷ more) script =
 
 -- What is read of a text, with at most so many refusals: its tokens, whose numbers count from 0; and what these lead to.
 pub record IsSource (engine : EngineValue) (limits : Limits) (text : Text) (most : ℕ) (source : Source) : Type 0 where
-  pub tokens : ReadsText text limits source.tokens
+  pub tokens : IsCutInto text limits source.tokens
   pub leads : LeadsTo engine (length source.tokens.entries.items)
       (numbered_from 0 (map item_of source.tokens.entries.items)) source.refusals.items source.script
   pub few : length source.refusals.items ≤ max most 1
